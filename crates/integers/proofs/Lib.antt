@@ -1,0 +1,8 @@
+pub mod Kit
+pub mod Floor
+pub mod Digits
+pub mod Width
+pub mod Machine
+pub mod Lists
+pub mod OneOutcome
+pub mod Unique

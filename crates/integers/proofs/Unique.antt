@@ -1,0 +1,19 @@
+-- Only one outcome meets each public function's contract.
+use mathlib.Core.Path.{sym, _∙_}
+use Rattle.integers.proofs.OneOutcome.{OneResult}
+use Rattle.integers.proofs.floor_by.Reads as floor-by
+use Rattle.integers.proofs.digit.Reads as digit
+use Rattle.integers.proofs.low_digits.Reads as low-digits
+use Rattle.integers.proofs.fits_width.Reads as fits-width
+
+floor-by-one : OneResult (floor-by.Post tt)
+floor-by-one a x y e f p q = p ∙ sym q
+
+digit-one : OneResult (digit.Post tt)
+digit-one a x y e f p q = p ∙ sym q
+
+low-digits-one : OneResult (low-digits.Post tt)
+low-digits-one a x y e f p q = p ∙ sym q
+
+fits-width-one : OneResult (fits-width.Post tt)
+fits-width-one a x y e f p q = p ∙ sym q

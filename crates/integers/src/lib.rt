@@ -1,0 +1,52 @@
+// Whole numbers, as every other room needs them: the floor of a division by a power of two, one
+// digit, the low digits, and whether a number fits a width.
+//
+// A number is an i64 in two's complement. Its digits go on for ever: above the highest they repeat
+// the sign. So each function here has an answer at every depth and every width, however large, and
+// none asks anything of its caller. The definitions are in specs/Numbers.antt, the laws that the
+// rooms above use in proofs/.
+ghost use mathlib.Core.Path.{_≡_};
+ghost use Prim.Native.Nat.{_-_};
+ghost use Rattle.integers.specs.Numbers.{floorBy, digit, lowDigits, fitsWidth};
+
+// x / 2^d, rounded toward minus infinity.
+pub fn floor_by(x: i64, d: u64) -> i64
+    ensures { λ r. ⌜ r ≡ floorBy x d ⌝ }
+{
+    if d < 64 { x >> d } else { x >> 63 }
+}
+
+// Digit i of x; above the highest it is the sign.
+pub fn digit(x: i64, i: u64) -> u8
+    ensures { λ r. ⌜ r ≡ digit x i ⌝ }
+{
+    (floor_by(x, i) & 1) as u8
+}
+
+// The low d digits of x, read as two's complement.
+pub fn low_digits(x: i64, d: u64) -> i64
+    ensures { λ r. ⌜ r ≡ lowDigits x d ⌝ }
+{
+    if d == 0 {
+        return 0;
+    }
+    if 63 < d {
+        return x;
+    }
+    let s = 64 - d;
+    (x << s) >> s
+}
+
+fn less_one(n: u32) -> u64
+    ensures { λ r. ⌜ r ≡ n - 1 ⌝ }
+{
+    if n == 0 { 0 } else { (n - 1) as u64 }
+}
+
+// Does x fit n digits? The digits from n - 1 up are then all the sign.
+pub fn fits_width(x: i64, n: u32) -> bool
+    ensures { λ r. ⌜ r ≡ fitsWidth x n ⌝ }
+{
+    let y = floor_by(x, less_one(n));
+    (y == 0) | (y == -1)
+}
