@@ -6,3 +6,4 @@ pub mod Machine
 pub mod Lists
 pub mod OneOutcome
 pub mod Unique
+mod Examples

@@ -10,14 +10,14 @@ use lib.Arith.{digits-mod}
 use lib.Bits.{bitAnd, and-mask}
 use lib.Pow.{pow-pos, pow-add, pow-mono, shl-lt, shl-shr, shr-lt, high}
 use lib.IntN.{ℤ, pos, negsuc, natAbs, _+ℤ_, _-ℤ_, _*ℤ_}
-use lib.Signed.{mag, mag-shr, nonNeg, shrZ}
+use lib.Signed.{mag, mag-shr, nonNeg, shrZ, ltZ}
 use mir.Syntax.{Width, w64}
 use mir.Val.{Fits, SFits, bits, toZ, ofZ}
 use mir.Facts.{toZ-pos, toZ-neg}
 use borrow.Author.Tests.{eq-eqb, ne-eqb, ltb-true, ltb-false}
-use Rattle.integers.specs.Numbers.{fitsWidth, floorBy, lowest, digit, digitsBelow, lowDigits}
+use Rattle.integers.specs.Numbers.{fitsWidth, turned, floorBy, lowest, digit, digitsBelow, lowDigits}
 use Rattle.integers.proofs.Kit.{up, down, ints, plus-law, minus-law, times-law}
-use Rattle.integers.proofs.Floor.{floor-size}
+use Rattle.integers.proofs.Floor.{floor-size, turned-pos, turned-negsuc}
 use Rattle.integers.proofs.Digits.{lowest-le, digit-le, digit-law, below-law, below-more, below-range, low-range, floor-low-digits}
 use Rattle.integers.proofs.Width.{fits-is}
 
@@ -47,6 +47,23 @@ lowest-machine y f = ap (toZ w64) (and-one y f) ∙ toZ-pos w64 (omega (arith, l
 -- a cast to an unsigned type of an i64 that is k
 pub by-cast : {w : Width} {t : ℤ} (k : ℕ) → t ≡ pos k → k < 2 ^ bits w → T (nonNeg t) × Fits w (natAbs t)
 by-cast {w} k e h = subst (λ (t : ℤ). T (nonNeg t) × Fits w (natAbs t)) (sym e) (tt, record { fits = h })
+
+-- ---- `!x`, and the sign
+pub turned-machine : {x : ℤ} → SFits w64 x → toZ w64 ((2 ^ 64 - 1) - ofZ w64 x) ≡ turned x
+turned-machine {x = pos n} f =
+    let e : (2 ^ 64 - 1) - n ≡ 2 ^ 64 - suc n = omega arith in
+    ap (toZ w64) e ∙ toZ-neg w64 n (f .sfits) ∙ sym (turned-pos n)
+turned-machine {x = negsuc n} f =
+    let e : (2 ^ 64 - 1) - (2 ^ 64 - suc n) ≡ n = omega (arith, f .sfits) in
+    ap (toZ w64) e ∙ toZ-pos w64 (f .sfits) ∙ sym (turned-negsuc n)
+
+pub is-negative : (x : ℤ) → ltZ x (pos 0) ≡ true → x ≡ negsuc (mag x)
+is-negative (pos n) h = absurd (omega (ints, h))
+is-negative (negsuc n) h = refl
+
+pub not-negative : (x : ℤ) → ltZ x (pos 0) ≡ false → x ≡ pos (mag x)
+not-negative (pos n) h = refl
+not-negative (negsuc n) h = absurd (omega (ints, h))
 
 -- ---- `(y == 0) | (y == -1)`
 or-no : (a : Bool) → (a || false) ≡ a

@@ -5,6 +5,7 @@ use Rattle.integers.proofs.floor_by.Reads as floor-by
 use Rattle.integers.proofs.digit.Reads as digit
 use Rattle.integers.proofs.low_digits.Reads as low-digits
 use Rattle.integers.proofs.fits_width.Reads as fits-width
+use Rattle.integers.proofs.absolute.Reads as absolute
 
 floor-by-one : OneResult (floor-by.Post tt)
 floor-by-one a x y e f p q = p ∙ sym q
@@ -17,3 +18,6 @@ low-digits-one a x y e f p q = p ∙ sym q
 
 fits-width-one : OneResult (fits-width.Post tt)
 fits-width-one a x y e f p q = p ∙ sym q
+
+absolute-one : OneResult (absolute.Post tt)
+absolute-one a x y e f p q = p ∙ sym q

@@ -11,7 +11,7 @@ use lib.Signed.{mag, leZ}
 use mir.Syntax.{w64}
 use mir.Val.{SFits}
 use borrow.Author.Tests.{ltb-true, ltb-false}
-use Rattle.integers.specs.Numbers.{lies, fitsWidth, floorBy, turned, lowDigits}
+use Rattle.integers.specs.Numbers.{lies, eqZ, fitsWidth, floorBy, turned, lowDigits}
 use Rattle.integers.proofs.Kit.{up, down, ints, plus-law, minus-law, neg-law, times-law, size-range, by-size, by-le-true, by-le-false}
 use Rattle.integers.proofs.Floor.{turned-size, floor-range}
 use Rattle.integers.proofs.Digits.{low-range}
@@ -33,6 +33,12 @@ lies-high lo hi x h = right (leZ lo x) (leZ x hi) h
     right : (a b : Bool) → (a && b) ≡ true → b ≡ true
     right true b e = e
     right false b e = cc
+
+pub eqZ-same : (a b : ℤ) → eqZ a b ≡ true → a ≡ b
+eqZ-same a b h = omega (ints, lies-low a a b h, lies-high a a b h)
+
+pub same-eqZ : (a b : ℤ) → a ≡ b → eqZ a b ≡ true
+same-eqZ a b e = lies-true a a b (omega ints) (omega ints)
 
 pub fits-size : (x : ℤ) (n : ℕ) → fitsWidth x n ≡ true → mag x < 2 ^ (n - 1)
 unfolding fitsWidth

@@ -10,7 +10,7 @@ abbrev pub tab : {A : Type 0} → ℕ → (ℕ → A) → List A
 tab zero f = []
 tab (suc n) f = f zero ∷ tab n (λ k. f (suc k))
 
--- d with f 0, .. f (n - 1) in its first n places, and the rest as it was
+-- d, of n places at least, with f 0, .. f (n - 1) in its first n, and the rest as it was
 unfoldable pub over : {A : Type 0} → ℕ → (ℕ → A) → List A → List A
 over n f d = tab n f ++ drop n d
 

@@ -8,7 +8,11 @@ use lib.Signed.{leZ, shrZ}
 abbrev pub lies : ℤ → ℤ → ℤ → Bool
 lies lo hi x = leZ lo x && leZ x hi
 
--- x fits n digits: it "lies from -2^(n-1) to 2^(n-1)-1"
+-- a is b
+abbrev pub eqZ : ℤ → ℤ → Bool
+eqZ a b = lies a a b
+
+-- x fits n digits, n ≥ 1: it "lies from -2^(n-1) to 2^(n-1)-1"
 unfoldable pub fitsWidth : ℤ → ℕ → Bool
 fitsWidth x n = lies (negℤ (pos (2 ^ (n - 1)))) (pos (2 ^ (n - 1)) -ℤ pos 1) x
 
@@ -23,16 +27,16 @@ floorBy x d = shrZ x (2 ^ d)
 -- the lowest digit; -1 - a has the digits of a, each turned over
 unfoldable pub lowest : ℤ → ℕ
 lowest (pos a) = a % 2
-lowest (negsuc a) = 1 - a % 2
+lowest (negsuc a) = 1 - (a % 2)
 
--- digit i, the lowest being digit 0
+-- digit i, the lowest being digit 0; past the highest it is the sign
 unfoldable pub digit : ℤ → ℕ → ℕ
 digit x i = lowest (floorBy x i)
 
 -- the digits 0 to k - 1, each at its weight
 unfoldable pub digitsBelow : ℤ → ℕ → ℕ
 digitsBelow x zero = 0
-digitsBelow x (suc k) = digit x k * 2 ^ k + digitsBelow x k
+digitsBelow x (suc k) = (digit x k * 2 ^ k) + digitsBelow x k
 
 -- "the low d digits read as two's complement": the highest of them counts against the others; no digits at all read 0
 unfoldable pub lowDigits : ℤ → ℕ → ℤ

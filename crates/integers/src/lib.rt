@@ -1,5 +1,5 @@
 // Whole numbers, as every other room needs them: the floor of a division by a power of two, one
-// digit, the low digits, and whether a number fits a width.
+// digit, the low digits, whether a number fits a width, and a number without its sign.
 //
 // A number is an i64 in two's complement. Its digits go on for ever: above the highest they repeat
 // the sign. So each function here has an answer at every depth and every width, however large, and
@@ -7,6 +7,7 @@
 // rooms above use in proofs/.
 ghost use mathlib.Core.Path.{_≡_};
 ghost use Prim.Native.Nat.{_-_};
+ghost use lib.IntN.{natAbs};
 ghost use Rattle.integers.specs.Numbers.{floorBy, digit, lowDigits, fitsWidth};
 
 // x / 2^d, rounded toward minus infinity.
@@ -49,4 +50,11 @@ pub fn fits_width(x: i64, n: u32) -> bool
 {
     let y = floor_by(x, less_one(n));
     (y == 0) | (y == -1)
+}
+
+// x without its sign.
+pub fn absolute(x: i64) -> u64
+    ensures { λ r. ⌜ r ≡ natAbs x ⌝ }
+{
+    if x < 0 { ((!x) as u64) + 1 } else { x as u64 }
 }

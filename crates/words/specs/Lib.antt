@@ -1,0 +1,5 @@
+pub mod Words
+pub mod Refusals
+pub mod Plain
+pub mod RoundBit
+pub mod HalfUnit

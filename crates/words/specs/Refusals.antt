@@ -1,0 +1,99 @@
+-- Document 01, "Refusal numbers": the table, and the rule for several causes.
+use Prim.Native.Nat.{ℕ, _-_}
+use mathlib.Core.Bool.{Bool, true, false, not, _&&_, _||_}
+use mathlib.Core.List.{List, [], _∷_}
+use lib.Dec.{T, leb, eqb}
+use lib.ListN.{getD, length}
+use lib.IntN.{ℤ, pos}
+use Rattle.integers.specs.Numbers.{eqZ}
+use Rattle.words.specs.Words.{badWidth, badUnit, outside, badRoundBit}
+use Rattle.words.specs.declared.Cause.{Cause}
+use Rattle.words.specs.declared.Cause.the-variants.{Width, Unit, Number, Mismatch, Depth, WidthPast, UnitPast, NumberPast, DigitText, Buffer, Mark, Form}
+use Rattle.words.specs.declared.Outcome.{Outcome}
+use Rattle.words.specs.declared.Outcome.the-variants.{Done, Refused}
+use Rattle.words.specs.declared.Format.{Format}
+
+-- the table's number of each cause
+abbrev pub causeNumber : Cause → ℕ
+-- "a width is outside 2 to 63 (2 to 32 in a file)"
+causeNumber Width = 1
+-- "a unit exponent is outside -127 to 127"
+causeNumber Unit = 2
+-- "a number is outside its width, or a round bit is not 0 or 1, or a round byte in a block of kind 0 or 2 is not 0"
+causeNumber Number = 3
+-- "a sum's operands, or a word and its running sum, differ in width or unit"
+causeNumber Mismatch = 4
+-- "a cut, or a conversion with a depth, would leave fewer than 2 digits; or a running sum has, or is opened with, a depth of 0 or more than its width less 2"
+causeNumber Depth = 5
+-- "the answer's width would pass 63"
+causeNumber WidthPast = 6
+-- "the answer's unit exponent would leave -127 to 127"
+causeNumber UnitPast = 7
+-- "the answer's number does not fit its width"
+causeNumber NumberPast = 8
+-- "a digit text has a byte that is not `+`, `0` or `-`, or two nonzero digits of one sign with nothing or only zeros between them"
+causeNumber DigitText = 9
+-- "a lent buffer is too short for what would be written"
+causeNumber Buffer = 10
+-- "a file's mark or version is wrong"
+causeNumber Mark = 11
+-- "a file's length, kind or count is wrong"
+causeNumber Form = 12
+
+-- "Done is 0."
+abbrev pub numberOf : Outcome → ℕ
+numberOf Done = 0
+numberOf (Refused c) = causeNumber c
+
+-- the table's rows from the top; `inTable n` says that one of them has the number n, and `cause n` is its cause
+abbrev pub causes : List Cause
+causes =
+    Width ∷ Unit ∷ Number ∷ Mismatch ∷ Depth ∷ WidthPast ∷ UnitPast ∷ NumberPast ∷ DigitText ∷ Buffer ∷ Mark ∷ Form ∷ []
+
+abbrev pub inTable : ℕ → Bool
+inTable n = leb 1 n && leb n (length causes)
+
+abbrev pub cause : (n : ℕ) → T (inTable n) → Cause
+cause n t = getD causes (n - 1) Width
+
+-- a cause, given exactly when its test holds
+abbrev pub refuseFor : Cause → Bool → Outcome
+refuseFor c true = Refused c
+refuseFor c false = Done
+
+-- `refuse n test`: the refusal that the table numbers n. For a number that the table lacks there is none, and `refuse 13 test` has no type
+abbrev pub Refuse : Bool → Type 0
+Refuse true = Bool → Outcome
+Refuse false = record {}
+
+abbrev refuseAt : (listed : Bool) → (T listed → Cause) → Refuse listed
+refuseAt true c = refuseFor (c tt)
+refuseAt false c = record {}
+
+abbrev pub refuse : (n : ℕ) → Refuse (inTable n)
+refuse n = refuseAt (inTable n) (cause n)
+
+-- "With several causes: .. then .. then ..": the first that is given
+infixr 4 _orElse_
+abbrev pub _orElse_ : Outcome → Outcome → Outcome
+Done orElse o = o
+Refused c orElse o = Refused c
+
+-- 1 and 2 of a width and a unit, then 3 of a number and a round bit in them; done where there is none
+unfoldable pub formatCheck : Format → Outcome
+formatCheck f = refuse 1 (badWidth (f .width)) orElse refuse 2 (badUnit (f .unit))
+
+unfoldable pub wordCheck : Format → ℤ → ℕ → Outcome
+wordCheck f x r = formatCheck f orElse refuse 3 (outside f x || badRoundBit r)
+
+-- 4 is for operands, or a word and its running sum, that "differ in width or unit"
+abbrev pub differ : Format → Format → Bool
+differ f g = not (eqb (f .width) (g .width) && eqZ (f .unit) (g .unit))
+
+-- "A refusal returns the blank word (number 0, round bit 0, width 2, unit 0)": its format, and the choice between that answer and another
+abbrev pub blankFormat : Format
+blankFormat = record { width = 2; unit = pos 0 }
+
+abbrev pub after : {A : Type 0} → (Cause → A) → Outcome → A → A
+after refused Done answer = answer
+after refused (Refused c) answer = refused c

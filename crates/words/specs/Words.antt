@@ -1,0 +1,34 @@
+-- Document 01, "The words", in its order.
+use Prim.Native.Nat.{ℕ}
+use mathlib.Core.Bool.{Bool, not, _&&_}
+use lib.Dec.{leb}
+use lib.IntN.{ℤ, pos, negℤ, _+ℤ_, _*ℤ_}
+use Rattle.integers.specs.Numbers.{lies, fitsWidth}
+use Rattle.words.specs.declared.Format.{Format}
+
+-- "Three kinds of word."
+pub data Kind : Type 0 where
+  plain roundBit halfUnit : Kind
+
+-- not: "Each has a width n, 2 to 63 digits,"
+abbrev pub badWidth : ℕ → Bool
+badWidth n = not (leb 2 n && leb n 63)
+
+-- not: "and a unit 2^e with e from -127 to 127." A format's unit is the exponent e
+abbrev pub badUnit : ℤ → Bool
+badUnit e = not (lies (negℤ (pos 127)) (pos 127) e)
+
+-- not: "The number in it lies from -2^(n-1) to 2^(n-1)-1."
+abbrev pub outside : Format → ℤ → Bool
+outside f x = not (fitsWidth x (f .width))
+
+-- not: "r 0 or 1"
+abbrev pub badRoundBit : ℕ → Bool
+badRoundBit r = not (leb r 1)
+
+-- The values, counted in halves of the word's own unit: "value x units", "value a + r units", "value w + 1/2 units".
+-- Plain and half-unit words have no round bit; theirs is not looked at
+unfoldable pub value : Kind → ℤ → ℕ → ℤ
+value plain x r = pos 2 *ℤ x
+value roundBit a r = pos 2 *ℤ (a +ℤ pos r)
+value halfUnit w r = (pos 2 *ℤ w) +ℤ pos 1

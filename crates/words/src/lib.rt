@@ -1,0 +1,287 @@
+// The three kinds of word, and how a call says whether it was done.
+//
+// A word is a number in a format: a width of 2 to 63 digits and a unit 2^e, e from -127 to 127. The
+// same digits mean three amounts, 5, (5,1) = 6 and 5.5, so each kind of number is a type of its own
+// and none is taken for another. A call answers an outcome, done or refused for one cause of the
+// table in document 01, and a word: the blank one where it refused.
+//
+// Every function here takes any value of these types. The definitions are in specs/, in document
+// 01's order; what a passed check tells is in proofs/Laws.antt.
+ghost use mathlib.Core.Path.{_≡_};
+ghost use Rattle.words.specs.Words.{badWidth, badUnit, outside, badRoundBit};
+ghost use Rattle.words.specs.Refusals.{numberOf, refuseFor, formatCheck, wordCheck, differ};
+ghost use Rattle.words.specs.Plain.{plainCheck, plainRefused, plainDone, plainFitted};
+ghost use Rattle.words.specs.RoundBit.{roundBitCheck, roundBitRefused, roundBitDone, roundBitFitted};
+ghost use Rattle.words.specs.HalfUnit.{halfUnitCheck, halfUnitRefused, halfUnitDone, halfUnitFitted};
+
+// Why a call refuses, in the table's order. The table's number of each is `causeNumber`.
+pub enum Cause {
+    Width,
+    Unit,
+    Number,
+    Mismatch,
+    Depth,
+    WidthPast,
+    UnitPast,
+    NumberPast,
+    DigitText,
+    Buffer,
+    Mark,
+    Form,
+}
+
+pub enum Outcome {
+    Done,
+    Refused(Cause),
+}
+
+// x
+pub struct Plain(pub i64);
+
+// (a, r)
+pub struct RoundBit(pub i64, pub u8);
+
+// w
+pub struct HalfUnit(pub i64);
+
+pub struct Format {
+    pub width: u32,
+    pub unit: i32,
+}
+
+pub struct PlainWord {
+    pub number: Plain,
+    pub format: Format,
+}
+
+pub struct RoundBitWord {
+    pub number: RoundBit,
+    pub format: Format,
+}
+
+pub struct HalfUnitWord {
+    pub number: HalfUnit,
+    pub format: Format,
+}
+
+pub struct PlainAnswer {
+    pub outcome: Outcome,
+    pub word: PlainWord,
+}
+
+pub struct RoundBitAnswer {
+    pub outcome: Outcome,
+    pub word: RoundBitWord,
+}
+
+pub struct HalfUnitAnswer {
+    pub outcome: Outcome,
+    pub word: HalfUnitWord,
+}
+
+// The number of an outcome: 0 for done, else the table's.
+pub fn number_of(o: Outcome) -> u32
+    ensures { λ r. ⌜ r ≡ numberOf o ⌝ }
+{
+    match o {
+        Outcome::Done => 0,
+        Outcome::Refused(c) => match c {
+            Cause::Width => 1,
+            Cause::Unit => 2,
+            Cause::Number => 3,
+            Cause::Mismatch => 4,
+            Cause::Depth => 5,
+            Cause::WidthPast => 6,
+            Cause::UnitPast => 7,
+            Cause::NumberPast => 8,
+            Cause::DigitText => 9,
+            Cause::Buffer => 10,
+            Cause::Mark => 11,
+            Cause::Form => 12,
+        },
+    }
+}
+
+// The cause, where its test holds.
+pub fn refuse(c: Cause, test: bool) -> Outcome
+    ensures { λ r. ⌜ r ≡ refuseFor c test ⌝ }
+{
+    if test {
+        Outcome::Refused(c)
+    } else {
+        Outcome::Done
+    }
+}
+
+fn bad_width(f: Format) -> bool
+    ensures { λ r. ⌜ r ≡ badWidth (f .width) ⌝ }
+{
+    !((2 <= f.width) & (f.width <= 63))
+}
+
+fn bad_unit(f: Format) -> bool
+    ensures { λ r. ⌜ r ≡ badUnit (f .unit) ⌝ }
+{
+    !((-127 <= f.unit) & (f.unit <= 127))
+}
+
+fn outside(f: Format, x: i64) -> bool
+    ensures { λ r. ⌜ r ≡ outside f x ⌝ }
+{
+    !integers::fits_width(x, f.width)
+}
+
+fn bad_round_bit(r: u8) -> bool
+    ensures { λ b. ⌜ b ≡ badRoundBit r ⌝ }
+{
+    !(r <= 1)
+}
+
+// Do two formats differ in width or unit?
+pub fn differ(f: Format, g: Format) -> bool
+    ensures { λ r. ⌜ r ≡ differ f g ⌝ }
+{
+    !((f.width == g.width) & ((f.unit <= g.unit) & (g.unit <= f.unit)))
+}
+
+// The first of the causes 1 and 2 of a format.
+pub fn format_check(f: Format) -> Outcome
+    ensures { λ r. ⌜ r ≡ formatCheck f ⌝ }
+{
+    let width = bad_width(f);
+    let unit = bad_unit(f);
+    match refuse(Cause::Width, width) {
+        Outcome::Refused(c) => Outcome::Refused(c),
+        Outcome::Done => refuse(Cause::Unit, unit),
+    }
+}
+
+// The first of the causes 1, 2 and 3 of a number and a round bit in a format.
+fn word_check(f: Format, x: i64, r: u8) -> Outcome
+    ensures { λ o. ⌜ o ≡ wordCheck f x r ⌝ }
+{
+    match format_check(f) {
+        Outcome::Refused(c) => Outcome::Refused(c),
+        Outcome::Done => refuse(Cause::Number, outside(f, x) | bad_round_bit(r)),
+    }
+}
+
+// The width and the unit of the blank word.
+const BLANK: Format = Format { width: 2, unit: 0 };
+
+// Plain words.
+pub fn plain_check(w: PlainWord) -> Outcome
+    ensures { λ r. ⌜ r ≡ plainCheck w ⌝ }
+{
+    word_check(w.format, w.number.0, 0)
+}
+
+pub fn plain_refused(c: Cause) -> PlainAnswer
+    ensures { λ r. ⌜ r ≡ plainRefused c ⌝ }
+{
+    PlainAnswer {
+        outcome: Outcome::Refused(c),
+        word: PlainWord {
+            number: Plain(0),
+            format: BLANK,
+        },
+    }
+}
+
+pub fn plain_done(w: PlainWord) -> PlainAnswer
+    ensures { λ r. ⌜ r ≡ plainDone w ⌝ }
+{
+    PlainAnswer {
+        outcome: Outcome::Done,
+        word: w,
+    }
+}
+
+// The word, or 8 where its number does not fit its width.
+pub fn plain_fitted(w: PlainWord) -> PlainAnswer
+    ensures { λ r. ⌜ r ≡ plainFitted w ⌝ }
+{
+    if outside(w.format, w.number.0) {
+        plain_refused(Cause::NumberPast)
+    } else {
+        plain_done(w)
+    }
+}
+
+// Round-bit words.
+pub fn round_bit_check(w: RoundBitWord) -> Outcome
+    ensures { λ r. ⌜ r ≡ roundBitCheck w ⌝ }
+{
+    word_check(w.format, w.number.0, w.number.1)
+}
+
+pub fn round_bit_refused(c: Cause) -> RoundBitAnswer
+    ensures { λ r. ⌜ r ≡ roundBitRefused c ⌝ }
+{
+    RoundBitAnswer {
+        outcome: Outcome::Refused(c),
+        word: RoundBitWord {
+            number: RoundBit(0, 0),
+            format: BLANK,
+        },
+    }
+}
+
+pub fn round_bit_done(w: RoundBitWord) -> RoundBitAnswer
+    ensures { λ r. ⌜ r ≡ roundBitDone w ⌝ }
+{
+    RoundBitAnswer {
+        outcome: Outcome::Done,
+        word: w,
+    }
+}
+
+// The word, or 8 where its number does not fit its width.
+pub fn round_bit_fitted(w: RoundBitWord) -> RoundBitAnswer
+    ensures { λ r. ⌜ r ≡ roundBitFitted w ⌝ }
+{
+    if outside(w.format, w.number.0) {
+        round_bit_refused(Cause::NumberPast)
+    } else {
+        round_bit_done(w)
+    }
+}
+
+// Half-unit words.
+pub fn half_unit_check(w: HalfUnitWord) -> Outcome
+    ensures { λ r. ⌜ r ≡ halfUnitCheck w ⌝ }
+{
+    word_check(w.format, w.number.0, 0)
+}
+
+pub fn half_unit_refused(c: Cause) -> HalfUnitAnswer
+    ensures { λ r. ⌜ r ≡ halfUnitRefused c ⌝ }
+{
+    HalfUnitAnswer {
+        outcome: Outcome::Refused(c),
+        word: HalfUnitWord {
+            number: HalfUnit(0),
+            format: BLANK,
+        },
+    }
+}
+
+pub fn half_unit_done(w: HalfUnitWord) -> HalfUnitAnswer
+    ensures { λ r. ⌜ r ≡ halfUnitDone w ⌝ }
+{
+    HalfUnitAnswer {
+        outcome: Outcome::Done,
+        word: w,
+    }
+}
+
+// The word, or 8 where its number does not fit its width.
+pub fn half_unit_fitted(w: HalfUnitWord) -> HalfUnitAnswer
+    ensures { λ r. ⌜ r ≡ halfUnitFitted w ⌝ }
+{
+    if outside(w.format, w.number.0) {
+        half_unit_refused(Cause::NumberPast)
+    } else {
+        half_unit_done(w)
+    }
+}
