@@ -4,9 +4,11 @@ use Prim.Native.Nat.{ℕ, zero, suc, _+_, _*_, _-_, _/_, _%_, _^_, _<_, _≤_}
 use native.Mathlib.Omega.{arith}
 use native.Mathlib.Nat.{div-add-mod', mod-lt, mul-le-mul-right, pow-succ'}
 use native.Mathlib.Numerals.{add-one}
+use lib.Bits.{bitOr}
+use lib.Pow.{pow-pos}
 use lib.IntN.{ℤ, pos, negsuc, _+ℤ_, _-ℤ_, _*ℤ_}
 use lib.Signed.{mag}
-use Rattle.integers.specs.Numbers.{floorBy, turned, lowest, digit, digitsBelow, lowDigits}
+use Rattle.integers.specs.Numbers.{floorBy, turned, lowest, digit, digitsBelow, anyBelow, lowDigits}
 use Rattle.integers.proofs.Kit.{up, down, ints, plus-law, minus-law, times-law, by-size}
 use Rattle.integers.proofs.Floor.{floor-low, floor-high, floor-floor, floor-none, floor-turned, turned-pos, turned-negsuc}
 
@@ -82,3 +84,55 @@ floor-low-digits x k =
 -- they lie from -2 ^ (d - 1) to 2 ^ (d - 1) - 1
 pub low-range : (x : ℤ) (k : ℕ) → mag (lowDigits x (suc k)) < 2 ^ k
 low-range x k = by-size (2 ^ k) (lowDigits x (suc k)) (omega (arith, low-law x k, below-range x k, mul-le-mul-right {m = digit x k} {n = 1} (2 ^ k) (digit-le x k)))
+
+-- ---- a digit below k is 1 exactly where the digits below k, at their weights, are more than 0, and where the low k digits are not 0
+or-bit : (a b : ℕ) → a ≤ 1 → b ≤ 1 → (bitOr a b ≤ 1) × (a ≤ bitOr a b) × (b ≤ bitOr a b) × (bitOr a b ≤ a + b)
+or-bit zero zero h k = omega arith
+or-bit zero (suc zero) h k = omega arith
+or-bit zero (suc (suc b)) h k = absurd (omega arith)
+or-bit (suc zero) zero h k = omega arith
+or-bit (suc zero) (suc zero) h k = omega arith
+or-bit (suc zero) (suc (suc b)) h k = absurd (omega arith)
+or-bit (suc (suc a)) b h k = absurd (omega arith)
+
+pub any-le : (x : ℤ) (k : ℕ) → anyBelow x k ≤ 1
+unfolding anyBelow
+any-le x zero = omega arith
+any-le x (suc k) = or-bit (digit x k) (anyBelow x k) (digit-le x k) (any-le x k) .0
+
+pub none-below : (x : ℤ) (k : ℕ) → anyBelow x k ≡ 0 → digitsBelow x k ≡ 0
+unfolding anyBelow digitsBelow
+none-below x zero e = refl
+none-below x (suc k) e =
+    let o = or-bit (digit x k) (anyBelow x k) (digit-le x k) (any-le x k) in
+    let d : digit x k ≡ 0 = omega arith in
+    let r = none-below x k (omega arith) in
+    rw (d, r) (omega arith)
+
+pub some-below : (x : ℤ) (k : ℕ) → digitsBelow x k ≡ 0 → anyBelow x k ≡ 0
+unfolding anyBelow digitsBelow
+some-below x zero e = refl
+some-below x (suc k) e =
+    let o = or-bit (digit x k) (anyBelow x k) (digit-le x k) (any-le x k) in
+    let d : digit x k ≡ 0 = zero-digit (digit x k) (2 ^ k) (pow-pos k) (omega arith) in
+    let r = some-below x k (omega arith) in
+    rw (d, r)
+  where
+    zero-digit : (b m : ℕ) → 0 < m → b * m ≡ 0 → b ≡ 0
+    zero-digit zero m h e = refl
+    zero-digit (suc b) m h e = absurd (omega arith)
+
+pub low-none : (x : ℤ) (k : ℕ) → anyBelow x k ≡ 0 → lowDigits x k ≡ pos 0
+unfolding lowDigits
+low-none x zero e = refl
+low-none x (suc k) e = omega (ints, none-below x (suc k) e, below-more x k, minus-law (pos (digitsBelow x k)) (pos (digit x k * 2 ^ k)))
+
+pub none-low : (x : ℤ) (k : ℕ) → lowDigits x k ≡ pos 0 → anyBelow x k ≡ 0
+unfolding anyBelow
+none-low x zero e = refl
+none-low x (suc k) e = some-below x (suc k) (omega (arith, below-more x k, both (digit x k) (digit-le x k) (omega (ints, low-law x k, e))))
+  where
+    both : (b : ℕ) → b ≤ 1 → b * 2 ^ k ≡ digitsBelow x k → b * 2 ^ k + digitsBelow x k ≡ 0
+    both zero h q = omega arith
+    both (suc zero) h q = absurd (omega (arith, below-range x k))
+    both (suc (suc b)) h q = absurd (omega arith)

@@ -13,7 +13,7 @@ use lib.IntN.{ℤ, pos, negsuc, natAbs, _+ℤ_, _-ℤ_, _*ℤ_}
 use lib.Signed.{mag, mag-shr, nonNeg, shrZ, ltZ}
 use mir.Syntax.{Width, w64}
 use mir.Val.{Fits, SFits, bits, toZ, ofZ}
-use mir.Facts.{toZ-pos, toZ-neg}
+use mir.Facts.{toZ-ofZ, toZ-pos, toZ-neg}
 use borrow.Author.Tests.{eq-eqb, ne-eqb, ltb-true, ltb-false}
 use Rattle.integers.specs.Numbers.{fitsWidth, turned, floorBy, lowest, digit, digitsBelow, lowDigits}
 use Rattle.integers.proofs.Kit.{up, down, ints, plus-law, minus-law, times-law}
@@ -64,6 +64,10 @@ is-negative (negsuc n) h = refl
 pub not-negative : (x : ℤ) → ltZ x (pos 0) ≡ false → x ≡ pos (mag x)
 not-negative (pos n) h = refl
 not-negative (negsuc n) h = absurd (omega (ints, h))
+
+-- `z == k`: the test is of the bits, and at a literal k these compute
+pub by-bits : {z : ℤ} (k : ℕ) → SFits w64 z → ofZ w64 z ≡ k → z ≡ toZ w64 k
+by-bits k f e = sym (toZ-ofZ f) ∙ ap (toZ w64) e
 
 -- ---- `(y == 0) | (y == -1)`
 or-no : (a : Bool) → (a || false) ≡ a

@@ -6,6 +6,7 @@ use Rattle.integers.proofs.digit.Reads as digit
 use Rattle.integers.proofs.low_digits.Reads as low-digits
 use Rattle.integers.proofs.fits_width.Reads as fits-width
 use Rattle.integers.proofs.absolute.Reads as absolute
+use Rattle.integers.proofs.any_below.Reads as any-below
 
 floor-by-one : OneResult (floor-by.Post tt)
 floor-by-one a x y e f p q = p ∙ sym q
@@ -21,3 +22,6 @@ fits-width-one a x y e f p q = p ∙ sym q
 
 absolute-one : OneResult (absolute.Post tt)
 absolute-one a x y e f p q = p ∙ sym q
+
+any-below-one : OneResult (any-below.Post tt)
+any-below-one a x y e f p q = p ∙ sym q

@@ -1,6 +1,7 @@
 -- Whole numbers as document 01 speaks of them: a range, the floor of a division by 2 ^ d, the digits in two's complement.
 use Prim.Native.Nat.{ℕ, zero, suc, _+_, _-_, _*_, _%_, _^_}
 use mathlib.Core.Bool.{Bool, _&&_}
+use lib.Bits.{bitOr}
 use lib.IntN.{ℤ, pos, negsuc, negℤ, _-ℤ_}
 use lib.Signed.{leZ, shrZ}
 
@@ -37,6 +38,11 @@ digit x i = lowest (floorBy x i)
 unfoldable pub digitsBelow : ℤ → ℕ → ℕ
 digitsBelow x zero = 0
 digitsBelow x (suc k) = (digit x k * 2 ^ k) + digitsBelow x k
+
+-- 1 if any digit below digit k is 1, and else 0
+unfoldable pub anyBelow : ℤ → ℕ → ℕ
+anyBelow x zero = 0
+anyBelow x (suc k) = bitOr (digit x k) (anyBelow x k)
 
 -- "the low d digits read as two's complement": the highest of them counts against the others; no digits at all read 0
 unfoldable pub lowDigits : ℤ → ℕ → ℤ

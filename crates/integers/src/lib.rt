@@ -8,7 +8,7 @@
 ghost use mathlib.Core.Path.{_≡_};
 ghost use Prim.Native.Nat.{_-_};
 ghost use lib.IntN.{natAbs};
-ghost use Rattle.integers.specs.Numbers.{floorBy, digit, lowDigits, fitsWidth};
+ghost use Rattle.integers.specs.Numbers.{floorBy, digit, lowDigits, anyBelow, fitsWidth};
 
 // x / 2^d, rounded toward minus infinity.
 pub fn floor_by(x: i64, d: u64) -> i64
@@ -36,6 +36,13 @@ pub fn low_digits(x: i64, d: u64) -> i64
     }
     let s = 64 - d;
     (x << s) >> s
+}
+
+// 1 if any digit of x below digit k is 1, and else 0.
+pub fn any_below(x: i64, k: u64) -> u8
+    ensures { λ r. ⌜ r ≡ anyBelow x k ⌝ }
+{
+    if low_digits(x, k) == 0 { 0 } else { 1 }
 }
 
 fn less_one(n: u32) -> u64

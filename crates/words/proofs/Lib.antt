@@ -1,3 +1,4 @@
 pub mod Laws
+pub mod Formats
 pub mod Unique
 mod Examples

@@ -5,6 +5,9 @@ use Rattle.words.proofs.number_of.Reads as number-of
 use Rattle.words.proofs.refuse.Reads as refuse
 use Rattle.words.proofs.differ.Reads as differ
 use Rattle.words.proofs.format_check.Reads as format-check
+use Rattle.words.proofs.formed.Reads as formed
+use Rattle.words.proofs.wider.Reads as wider
+use Rattle.words.proofs.narrower.Reads as narrower
 use Rattle.words.proofs.plain_check.Reads as plain-check
 use Rattle.words.proofs.plain_refused.Reads as plain-refused
 use Rattle.words.proofs.plain_done.Reads as plain-done
@@ -29,6 +32,15 @@ differ-one a x y e f p q = p ∙ sym q
 
 format-check-one : OneResult (format-check.Post tt)
 format-check-one a x y e f p q = p ∙ sym q
+
+formed-one : OneResult (formed.Post tt)
+formed-one a x y e f p q = p ∙ sym q
+
+wider-one : OneResult (wider.Post tt)
+wider-one a x y e f p q = p ∙ sym q
+
+narrower-one : OneResult (narrower.Post tt)
+narrower-one a x y e f p q = p ∙ sym q
 
 plain-check-one : OneResult (plain-check.Post tt)
 plain-check-one a x y e f p q = p ∙ sym q

@@ -1,5 +1,6 @@
 pub mod Words
 pub mod Refusals
+pub mod Formats
 pub mod Plain
 pub mod RoundBit
 pub mod HalfUnit

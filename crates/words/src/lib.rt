@@ -8,8 +8,10 @@
 // Every function here takes any value of these types. The definitions are in specs/, in document
 // 01's order; what a passed check tells is in proofs/Laws.antt.
 ghost use mathlib.Core.Path.{_≡_};
+ghost use Prim.Native.Nat.{_-_, _^_, _<_};
 ghost use Rattle.words.specs.Words.{badWidth, badUnit, outside, badRoundBit};
-ghost use Rattle.words.specs.Refusals.{numberOf, refuseFor, formatCheck, wordCheck, differ};
+ghost use Rattle.words.specs.Refusals.{numberOf, refuseFor, formatCheck, wordCheck, differ, refuse, blankFormat};
+ghost use Rattle.words.specs.Formats.{format, narrower, narrowerCheck, wider, answerCheck, formatAnswer};
 ghost use Rattle.words.specs.Plain.{plainCheck, plainRefused, plainDone, plainFitted};
 ghost use Rattle.words.specs.RoundBit.{roundBitCheck, roundBitRefused, roundBitDone, roundBitFitted};
 ghost use Rattle.words.specs.HalfUnit.{halfUnitCheck, halfUnitRefused, halfUnitDone, halfUnitFitted};
@@ -77,6 +79,12 @@ pub struct RoundBitAnswer {
 pub struct HalfUnitAnswer {
     pub outcome: Outcome,
     pub word: HalfUnitWord,
+}
+
+// The format of an answer, or a refusal with the blank one.
+pub struct FormatAnswer {
+    pub outcome: Outcome,
+    pub format: Format,
 }
 
 // The number of an outcome: 0 for done, else the table's.
@@ -168,6 +176,74 @@ fn word_check(f: Format, x: i64, r: u8) -> Outcome
 
 // The width and the unit of the blank word.
 const BLANK: Format = Format { width: 2, unit: 0 };
+
+fn format_refused(c: Cause) -> FormatAnswer
+    ensures { λ r. ⌜ r ≡ formatAnswer (Outcome.Refused c) blankFormat ⌝ }
+{
+    FormatAnswer {
+        outcome: Outcome::Refused(c),
+        format: BLANK,
+    }
+}
+
+// The format of this width and unit, or 7.
+fn placed(width: u64, unit: i64) -> FormatAnswer
+    requires { ⌜ width < 2 ^ 32 ⌝ }
+    ensures { λ r. ⌜ r ≡ formatAnswer (refuse 7 (badUnit unit)) (format width unit) ⌝ }
+{
+    if (-127 <= unit) & (unit <= 127) {
+        FormatAnswer {
+            outcome: Outcome::Done,
+            format: Format {
+                width: width as u32,
+                unit: unit as i32,
+            },
+        }
+    } else {
+        format_refused(Cause::UnitPast)
+    }
+}
+
+// The format of this width and unit, or 6, or 7.
+pub fn formed(width: u64, unit: i64) -> FormatAnswer
+    ensures { λ r. ⌜ r ≡ formatAnswer (answerCheck (format width unit)) (format width unit) ⌝ }
+{
+    if 63 < width {
+        format_refused(Cause::WidthPast)
+    } else {
+        placed(width, unit)
+    }
+}
+
+// d digits more on the right: the unit is finer by 2^d.
+pub fn wider(f: Format, d: u64) -> FormatAnswer
+    ensures { λ r. ⌜ r ≡ formatAnswer (answerCheck (wider f d)) (wider f d) ⌝ }
+{
+    if 63 < d {
+        format_refused(Cause::WidthPast)
+    } else {
+        formed((f.width as u64) + d, (f.unit as i64) - (d as i64))
+    }
+}
+
+// What is left of n digits when d are cut off.
+fn remaining(n: u32, d: u64) -> u64
+    ensures { λ r. ⌜ r ≡ n - d ⌝ }
+{
+    if (n as u64) < d { 0 } else { (n as u64) - d }
+}
+
+// d digits fewer on the right: the unit is coarser by 2^d.
+pub fn narrower(f: Format, d: u64) -> FormatAnswer
+    ensures { λ r. ⌜ r ≡ formatAnswer (narrowerCheck f d) (narrower f d) ⌝ }
+{
+    let n = remaining(f.width, d);
+    if n < 2 {
+        format_refused(Cause::Depth)
+    } else {
+        placed(n, (f.unit as i64) + (d as i64))
+    }
+}
 
 // Plain words.
 pub fn plain_check(w: PlainWord) -> Outcome

@@ -1,0 +1,60 @@
+use Prim.Native.Nat.{_<_, _+_}
+use mathlib.Core.Path.{_≡_, _∙_}
+use native.Mathlib.Omega.{arith}
+use lib.IntN.{pos, _-ℤ_}
+use mir.Syntax.{w32, w64}
+use mir.Val.{SFits, toZ}
+use mir.Facts.{toZ-ofZ, toZ-pos, sfits-widen}
+use borrow.Author.Needs.{needs}
+use borrow.Author.Tests.{lt-ltb}
+use Rattle.integers.proofs.Kit.{ints, minus-law}
+use Rattle.words.specs.Formats.{answerCheck, formatAnswer}
+use Rattle.words.proofs.wider.Statement.{statement}
+use Rattle.words.proofs.wider.Tie as tie
+
+-- the unit, and the unit less d, as an i64
+module _ (c : tie.After-struct-told) where
+  unit : SFits w32 (c .before .before .before .before .args .f .unit)
+  unit = search needs
+
+  depth : toZ w64 (c .before .before .before .before .args .d) ≡ pos (c .before .before .before .before .args .d)
+  depth = toZ-pos w64 (omega arith)
+
+  moved : SFits w64 (c .before .before .before .before .args .f .unit -ℤ pos (c .before .before .before .before .args .d))
+  moved =
+      let u = c .before .before .before .before .args .f .unit in
+      let d = c .before .before .before .before .args .d in
+      let h : d < 64 = omega arith in
+      omega (ints, unit, minus-law u (pos d))
+
+cast-formed-2 : tie.Need-cast-formed-2
+cast-formed-2 c = rw (toZ-ofZ (unit c)) (sfits-widen tt (unit c))
+
+sub-formed : tie.Need-sub-formed
+sub-formed c = rw (toZ-ofZ (unit c), toZ-ofZ (sfits-widen {w′ = w64} tt (unit c)), depth c) (moved c)
+
+returns : tie.Need-returns
+unfolding answerCheck formatAnswer
+returns c =
+    let a = c .before .before .args in
+    let h : 63 < a .f .width + a .d = omega arith in
+    c .format-refused .ensures ∙ rw (lt-ltb 63 _ h)
+
+returns-2 : tie.Need-returns-2
+returns-2 c =
+    let b = c .before in
+    c .formed .ensures ∙ rw (toZ-ofZ (unit b), toZ-ofZ (sfits-widen {w′ = w64} tt (unit b)), depth b, toZ-ofZ (moved b))
+
+pub wider-spec : {M : Type 1} → statement M
+wider-spec =
+    tie.close
+    (tie.spec
+    (λ c κs. search needs)
+    (λ c. search needs)
+    (λ c. search needs)
+    cast-formed-2
+    (λ c. search needs)
+    sub-formed
+    (λ c κs. search needs)
+    returns
+    returns-2)
