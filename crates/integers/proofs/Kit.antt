@@ -4,10 +4,10 @@
 -- hand over a law times a factor, `ap (λ (k : ℕ). k * m) (plus-law a b)`. Assumes nothing.
 use mathlib.Core.Path.{_≡_, refl, sym, ap, subst}
 use mathlib.Core.Bool.{Bool, true, false, not, cond}
-use Prim.Native.Nat.{ℕ, zero, suc, _+_, _*_, _-_, _^_, _<_, _≤_, max}
+use Prim.Native.Nat.{ℕ, zero, suc, _+_, _*_, _-_, _^_, _<_, _≤_, max, min}
 use native.Mathlib.Omega.{arith}
 use lib.Dec.{T, ltb, leb→le, ltb→lt, nltb→le, nleb→lt, le→leb, lt→ltb}
-use lib.IntN.{ℤ, pos, negsuc, negℤ, subℕ, _+ℤ_, _-ℤ_, _*ℤ_}
+use lib.IntN.{ℤ, pos, negsuc, negℤ, natAbs, subℕ, _+ℤ_, _-ℤ_, _*ℤ_}
 use lib.Signed.{mag, ltZ, leZ, _≤ℤ_, _<ℤ_}
 use mir.Syntax.{Width}
 use mir.Val.{SFits, hbits}
@@ -52,10 +52,14 @@ times-law (pos a) (negsuc b) = omega (arith, neg-law (pos (a * suc b)))
 times-law (negsuc a) (pos b) = omega (arith, neg-law (pos (suc a * b)))
 times-law (negsuc a) (negsuc b) = omega arith
 
--- one of the two is 0, and the greater is the size; mag z is n for n and for -1 - n
+-- the size: mag z is n for n and for -1 - n. One of up and down is 0
 pub size-law : (z : ℤ) → (up z ≤ mag z) × (down z ≤ mag z + 1)
 size-law (pos n) = omega arith
 size-law (negsuc n) = omega arith
+
+pub one-zero : (z : ℤ) → min (up z) (down z) ≡ 0
+one-zero (pos n) = omega arith
+one-zero (negsuc n) = omega arith
 
 -- ---- equality and the orders, both ways
 pub eq-rule : {a b : ℤ} → a ≡ b → up a + down b ≡ up b + down a
@@ -157,6 +161,20 @@ pub by-size : (p : ℕ) (z : ℤ) → max (2 * up z + 1) (2 * down z) ≤ p + (u
 by-size p (pos n) h = omega arith
 by-size p (negsuc n) h = omega arith
 
+-- ---- the distance from 0, as one bound
+pub abs-range : (k : ℕ) (z : ℤ) → natAbs z ≤ k → max (up z) (down z) ≤ k
+abs-range k (pos n) h = omega arith
+abs-range k (negsuc n) h = omega arith
+
+pub by-abs : (k : ℕ) (z : ℤ) → max (2 * up z) (2 * down z) ≤ k + (up z + down z) → natAbs z ≤ k
+by-abs k (pos n) h = omega arith
+by-abs k (negsuc n) h = omega arith
+
+pub abs-law : (z : ℤ) → natAbs z ≡ up z + down z
+abs-law (pos n) = omega arith
+abs-law (negsuc n) = omega arith
+
+-- ---- machine ranges, as rules
 pub machine-rule : {w : Width} {z : ℤ} → SFits w z → max (up z + 1) (down z) ≤ 2 ^ hbits w
 machine-rule {w} {z} f = size-range (2 ^ hbits w) z (f .sfits)
 

@@ -5,5 +5,5 @@ pub mod Width
 pub mod Machine
 pub mod Lists
 pub mod OneOutcome
-pub mod Unique
+mod Unique
 mod Examples

@@ -4,19 +4,19 @@ use mathlib.Core.Path.{_≡_, refl, sym, ap, _∙_, subst}
 use mathlib.Core.Bool.{Bool, true, false, _||_}
 use Prim.Native.Nat.{ℕ, zero, suc, _+_, _*_, _-_, _/_, _%_, _^_, _<_, _≤_}
 use native.Mathlib.Omega.{arith}
-use native.Mathlib.Nat.{div-eq-of-lt, lt-div-mul-add, lt-of-lt-of-le, lt-of-le-of-lt, mod-lt, div-add-mod', mul-le-mul-right, add-comm}
+use native.Mathlib.Nat.{mod-eq-of-lt, div-eq-of-lt, lt-div-mul-add, lt-of-lt-of-le, lt-of-le-of-lt, mod-lt, div-add-mod', mul-le-mul-right, add-comm}
 use lib.Dec.{T, eqb, ltb}
 use lib.Arith.{digits-mod}
 use lib.Bits.{bitAnd, and-mask}
 use lib.Pow.{pow-pos, pow-add, pow-mono, shl-lt, shl-shr, shr-lt, high}
-use lib.IntN.{ℤ, pos, negsuc, natAbs, _+ℤ_, _-ℤ_, _*ℤ_}
+use lib.IntN.{ℤ, pos, negsuc, negℤ, natAbs, _+ℤ_, _-ℤ_, _*ℤ_}
 use lib.Signed.{mag, mag-shr, nonNeg, shrZ, ltZ}
 use mir.Syntax.{Width, w64}
 use mir.Val.{Fits, SFits, bits, toZ, ofZ}
 use mir.Facts.{toZ-ofZ, toZ-pos, toZ-neg}
 use borrow.Author.Tests.{eq-eqb, ne-eqb, ltb-true, ltb-false}
 use Rattle.integers.specs.Numbers.{fitsWidth, turned, floorBy, lowest, digit, digitsBelow, lowDigits}
-use Rattle.integers.proofs.Kit.{up, down, ints, plus-law, minus-law, times-law}
+use Rattle.integers.proofs.Kit.{up, down, ints, plus-law, minus-law, neg-law, times-law}
 use Rattle.integers.proofs.Floor.{floor-size, turned-pos, turned-negsuc}
 use Rattle.integers.proofs.Digits.{lowest-le, digit-le, digit-law, below-law, below-more, below-range, low-range, floor-low-digits}
 use Rattle.integers.proofs.Width.{fits-is}
@@ -100,6 +100,33 @@ fits-machine-test x n f =
     ∙ ap (λ (k : ℕ). eqb k 0) (floor-size x (n - 1))
     ∙ floor-zero (mag x) (2 ^ (n - 1)) (pow-pos (n - 1))
     ∙ sym (fits-is x n)
+
+-- ---- `x << d`, where the product fits
+neg-bits : (k : ℕ) → 0 < k → k ≤ 2 ^ 63 → toZ w64 (2 ^ 64 - k) ≡ negℤ (pos k)
+neg-bits zero h l = absurd (omega arith)
+neg-bits (suc k) h l = toZ-neg w64 k l
+
+-- (C - n) * p = (p - 1) * C + (C - n * p)
+borrowed : (C n p : ℕ) → n ≤ C → n * p ≤ C → 0 < p → (C - n) * p ≡ (p - 1) * C + (C - n * p)
+borrowed C n p h l k =
+    let e : (C - n) + n ≡ C = omega arith in
+    let g : (p - 1) + 1 ≡ p = omega arith in
+    omega (arith, ap (λ (i : ℕ). i * p) e, ap (λ (i : ℕ). i * C) g)
+
+pub times-machine : {x : ℤ} (d : ℕ) → SFits w64 x → SFits w64 (x *ℤ pos (2 ^ d)) → toZ w64 ((ofZ w64 x * 2 ^ d) % 2 ^ 64) ≡ x *ℤ pos (2 ^ d)
+times-machine {x = pos n} d f g =
+    let h : n * 2 ^ d < 2 ^ 64 = omega (arith, g .sfits) in
+    ap (toZ w64) (mod-eq-of-lt h) ∙ toZ-pos w64 (g .sfits)
+times-machine {x = negsuc n} d f g =
+    ap (λ (k : ℕ). toZ w64 (k % 2 ^ 64)) (borrowed (2 ^ 64) (suc n) (2 ^ d) (omega (arith, f .sfits)) (omega (arith, small)) (pow-pos d))
+    ∙ ap (toZ w64) (digits-mod (2 ^ d - 1) (omega (arith, some)))
+    ∙ neg-bits (suc n * 2 ^ d) some small
+  where
+    some : 0 < suc n * 2 ^ d
+    some = omega (arith, pow-pos d)
+
+    small : suc n * 2 ^ d ≤ 2 ^ 63
+    small = omega (ints, g, neg-law (pos (suc n * 2 ^ d)))
 
 -- ---- `(x << s) >> s` with d + s = 64: the low d digits
 -- the bits of x end in its digits below d

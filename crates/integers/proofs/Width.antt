@@ -1,18 +1,18 @@
 -- Laws of "x fits n digits", at every width: what fits, and that sums and products of what fits stay inside an i64. Assumes nothing.
 use mathlib.Core.Path.{_≡_, refl, sym, ap, _∙_, subst}
 use mathlib.Core.Bool.{Bool, true, false, _&&_}
-use Prim.Native.Nat.{ℕ, zero, suc, _+_, _*_, _-_, _^_, _<_, _≤_}
+use Prim.Native.Nat.{ℕ, zero, suc, _+_, _*_, _-_, _^_, _<_, _≤_, max}
 use native.Mathlib.Omega.{arith}
 use native.Mathlib.Nat.{lt-of-lt-of-le, mul-le-mul, mul-le-mul-left, mul-le-mul-right}
 use lib.Dec.{ltb}
 use lib.Pow.{pow-pos, pow-add, pow-mono}
-use lib.IntN.{ℤ, pos, negsuc, negℤ, _+ℤ_, _-ℤ_, _*ℤ_}
+use lib.IntN.{ℤ, pos, negsuc, negℤ, _+ℤ_, _-ℤ_, _*ℤ_, *ℤ-comm}
 use lib.Signed.{mag, leZ}
 use mir.Syntax.{w64}
 use mir.Val.{SFits}
 use borrow.Author.Tests.{ltb-true, ltb-false}
 use Rattle.integers.specs.Numbers.{lies, eqZ, fitsWidth, floorBy, turned, lowDigits}
-use Rattle.integers.proofs.Kit.{up, down, ints, plus-law, minus-law, neg-law, times-law, size-range, by-size, by-le-true, by-le-false}
+use Rattle.integers.proofs.Kit.{up, down, ints, plus-law, minus-law, neg-law, times-law, one-zero, size-range, by-size, by-le-true, by-le-false, plus-times}
 use Rattle.integers.proofs.Floor.{turned-size, floor-range}
 use Rattle.integers.proofs.Digits.{low-range}
 
@@ -106,6 +106,44 @@ widen-size a r j d h l = rw (pow-add 2 j d) (go a (2 ^ j) (2 ^ d) (pow-pos d) h)
         by-size (p * m) (x +ℤ pos (r * (m - 1)))
         (omega (arith, times-law (negsuc n) (pos m), plus-law x (pos (r * (m - 1))), mul-le-mul-right {m = r} {n = 1} (m - 1) l, mul-le-mul-right {m = suc n} {n = p} m h))
 
+-- which is (a + r) * 2 ^ d - r, and every step of that fits an i64
+pub widen-is : (a : ℤ) (r d : ℕ) → ((a +ℤ pos r) *ℤ pos (2 ^ d)) -ℤ pos r ≡ (a *ℤ pos (2 ^ d)) +ℤ pos (r * (2 ^ d - 1))
+widen-is a r d = go (2 ^ d) (pow-pos d)
+  where
+    go : (m : ℕ) → 0 < m → ((a +ℤ pos r) *ℤ pos m) -ℤ pos r ≡ (a *ℤ pos m) +ℤ pos (r * (m - 1))
+    go m h =
+        let e : m - 1 + 1 ≡ m = omega arith in
+        let s = (a +ℤ pos r) *ℤ pos m in
+        omega (
+          ints,
+          minus-law s (pos r),
+          times-law (a +ℤ pos r) (pos m),
+          ap (λ (k : ℕ). k * m) (plus-law a (pos r)),
+          times-law a (pos m),
+          plus-law (a *ℤ pos m) (pos (r * (m - 1))),
+          ap (λ (k : ℕ). r * k) e,
+        )
+
+pub widen-machine : (a : ℤ) (r d : ℕ) → d ≤ 61 → mag a < 2 ^ (62 - d) → r ≤ 1 → SFits w64 (a +ℤ pos r) × SFits w64 ((a +ℤ pos r) *ℤ pos (2 ^ d)) × SFits w64 (((a +ℤ pos r) *ℤ pos (2 ^ d)) -ℤ pos r)
+widen-machine a r d l h k =
+    let p = 2 ^ (62 - d) in
+    let s = a +ℤ pos r in
+    let back : 62 - d + d ≡ 62 = omega arith in
+    let e : p * 2 ^ d ≡ 2 ^ 62 = sym (pow-add 2 (62 - d) d) ∙ ap (λ (i : ℕ). 2 ^ i) back in
+    let small : p ≤ 2 ^ 62 = pow-mono {i = 62 - d} {j = 62} (omega arith) in
+    let u : up s ≤ p = bound p a (size-range p a h) .0 in
+    let v : down s ≤ p = bound p a (size-range p a h) .1 in
+    let x = mul-le-mul-right (2 ^ d) u in
+    let y = mul-le-mul-right (2 ^ d) v in (
+      omega (ints, u, v, small),
+      omega (ints, times-law s (pos (2 ^ d)), x, y, e),
+      omega (ints, times-law s (pos (2 ^ d)), minus-law (s *ℤ pos (2 ^ d)) (pos r), x, y, e),
+    )
+  where
+    bound : (p : ℕ) (a : ℤ) → max (up a + 1) (down a) ≤ p → (up (a +ℤ pos r) ≤ p) × (down (a +ℤ pos r) ≤ p)
+    bound p (pos n) m = omega arith
+    bound p (negsuc n) m = omega (arith, plus-law (negsuc n) (pos r), one-zero (negsuc n +ℤ pos r))
+
 -- ---- products of numbers that are not negative, with the cross terms of the round bits
 cross : (x y r s p q : ℕ) → x < p → y < q → r ≤ 1 → s ≤ 1 → x * y + x * s + y * r < p * q
 cross x y zero s p q h k l m = omega (arith, mul-le-mul-left {m = y + s} {n = q} x (omega arith), mul-le-mul-right {m = suc x} {n = p} q h)
@@ -126,3 +164,21 @@ times-size x y i j h k = rw (pow-add 2 i j) (go x y (2 ^ i) (2 ^ j) h k)
     go (pos a) (negsuc b) p q h k = omega (arith, times-law (pos a) (negsuc b), mul-le-mul h k)
     go (negsuc a) (pos b) p q h k = omega (arith, times-law (negsuc a) (pos b), mul-le-mul h k)
     go (negsuc a) (negsuc b) p q h k = omega (arith, mul-le-mul h k)
+
+-- ---- a factor on the left of a sum, and a sign on either factor
+pub times-plus : (a b c : ℤ) → a *ℤ (b +ℤ c) ≡ (a *ℤ b) +ℤ (a *ℤ c)
+times-plus a b c = rw (*ℤ-comm a (b +ℤ c), plus-times b c a, *ℤ-comm b a, *ℤ-comm c a)
+
+pub neg-times : (a b : ℤ) → negℤ a *ℤ b ≡ negℤ (a *ℤ b)
+neg-times a b = omega (ints, rw (neg-law a .0, neg-law a .1) at (times-law (negℤ a) b), times-law a b, neg-law (a *ℤ b))
+
+pub times-neg : (a b : ℤ) → a *ℤ negℤ b ≡ negℤ (a *ℤ b)
+times-neg a b = rw (*ℤ-comm a (negℤ b), neg-times b a, *ℤ-comm b a)
+
+-- ---- a number of a size below p and a carry: what is no more below p is p itself
+pub carry-past : (a : ℤ) (t p : ℕ) → mag a < p → t ≤ 1 → p ≤ mag (a +ℤ pos t) → a +ℤ pos t ≡ pos p
+carry-past a t p h k l = go (a +ℤ pos t) (plus-law a (pos t)) (size-range p a h) l
+  where
+    go : (z : ℤ) → up z + (down a + 0) ≡ up a + t + down z → max (up a + 1) (down a) ≤ p → p ≤ mag z → z ≡ pos p
+    go (pos n) e s l = ap pos (omega arith)
+    go (negsuc n) e s l = absurd (omega arith)

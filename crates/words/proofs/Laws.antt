@@ -24,7 +24,13 @@ use Rattle.words.specs.declared.Cause.{Cause}
 use Rattle.words.specs.declared.Cause.the-variants.{Width, Unit, Number, Mismatch, Depth, WidthPast, UnitPast, NumberPast, DigitText, Buffer, Mark, Form}
 use Rattle.words.specs.declared.Outcome.{Outcome}
 use Rattle.words.specs.declared.Outcome.the-variants.{Done, Refused}
+use Rattle.words.specs.Plain.{plainCheck}
+use Rattle.words.specs.RoundBit.{roundBitCheck}
+use Rattle.words.specs.HalfUnit.{halfUnitCheck}
 use Rattle.words.specs.declared.Format.{Format}
+use Rattle.words.specs.declared.PlainWord.{PlainWord}
+use Rattle.words.specs.declared.RoundBitWord.{RoundBitWord}
+use Rattle.words.specs.declared.HalfUnitWord.{HalfUnitWord}
 
 -- ---- the table: `cause n` is the cause whose number is n, for n from 1 to 12
 rows : all (length causes) (λ k. eqb (causeNumber (getD causes k Width)) (suc k)) ≡ true
@@ -78,7 +84,7 @@ pub record RightFormat (f : Format) : Type 0 where
   pub fine : negℤ (pos 127) ≤ℤ f .unit
   pub coarse : f .unit ≤ℤ pos 127
 
-and-both : (a b : Bool) → (a && b) ≡ true → (a ≡ true) × (b ≡ true)
+pub and-both : (a b : Bool) → (a && b) ≡ true → (a ≡ true) × (b ≡ true)
 and-both true b e = (refl, e)
 and-both false b e = (e, let z : _≡_ {A = Bool} false true = e in cc)
 
@@ -136,3 +142,16 @@ machine g = record { sfits = omega (arith, small g) }
 pub blank-right : wordCheck blankFormat (pos 0) 0 ≡ Done
 unfolding wordCheck formatCheck fitsWidth
 blank-right = refl
+
+-- ---- the same of each kind of word
+pub plain-right : (w : PlainWord) → plainCheck w ≡ Done → Right (w .format) (w .number .0) 0
+unfolding plainCheck
+plain-right w e = right (w .format) (w .number .0) 0 e
+
+pub round-bit-right : (w : RoundBitWord) → roundBitCheck w ≡ Done → Right (w .format) (w .number .0) (w .number .1)
+unfolding roundBitCheck
+round-bit-right w e = right (w .format) (w .number .0) (w .number .1) e
+
+pub half-unit-right : (w : HalfUnitWord) → halfUnitCheck w ≡ Done → Right (w .format) (w .number .0) 0
+unfolding halfUnitCheck
+half-unit-right w e = right (w .format) (w .number .0) 0 e

@@ -1,4 +1,5 @@
 pub mod Laws
 pub mod Formats
-pub mod Unique
+pub mod Operands
+mod Unique
 mod Examples

@@ -312,11 +312,12 @@ pub fn round_bit_done(w: RoundBitWord) -> RoundBitAnswer
     }
 }
 
-// The word, or 8 where its number does not fit its width.
+// The word, or 8 where its number, and not its value, does not fit its width.
 pub fn round_bit_fitted(w: RoundBitWord) -> RoundBitAnswer
     ensures { λ r. ⌜ r ≡ roundBitFitted w ⌝ }
 {
-    if outside(w.format, w.number.0) {
+    let number = w.number.0;
+    if outside(w.format, number) {
         round_bit_refused(Cause::NumberPast)
     } else {
         round_bit_done(w)

@@ -1,0 +1,47 @@
+-- Document 01's own examples of round-bit words, computed from the definitions. The bench sheet's one table is a crate of its own.
+use Prim.Native.Nat.{ℕ, _^_}
+use mathlib.Core.Path.{_≡_, refl}
+use mathlib.Core.Bool.{true, false}
+use lib.IntN.{ℤ, pos, negsuc}
+use Rattle.integers.specs.Numbers.{fitsWidth, floorBy, lowest, digit, digitsBelow, anyBelow, lowDigits}
+use Rattle.words.specs.Refusals.{cause, formatCheck, wordCheck}
+use Rattle.words.specs.Formats.{format, narrowerCheck, answerCheck}
+use Rattle.words.specs.Plain.{plainWord, plainRefused, plainFitted}
+use Rattle.words.specs.RoundBit.{roundBitWord, roundBitCheck, roundBitRefused, roundBitDone, roundBitFitted}
+use Rattle.words.specs.declared.Outcome.{Outcome}
+use Rattle.words.specs.declared.Outcome.the-variants.{Done, Refused}
+use Rattle.words.specs.declared.RoundBitWord.{RoundBitWord}
+use Rattle.round_bit.specs.Cuts.{signChangeWord, cutCheck, cutWord, cutAnswer, cutOf, restWord, restOf, evenRoundBit, evenCutWord, evenCutAnswer, evenCutOf, widenCheck, widenWord, widenOf}
+use Rattle.round_bit.specs.Sums.{sumCheck, sumWord, sumOf, differenceOf}
+use Rattle.round_bit.specs.Products.{magnitudeProduct, multiplied, productCheck, productWord, productOf}
+use Rattle.round_bit.specs.Conversions.{toPlainWord, toPlainOf}
+
+-- a word of unit 0
+abbrev at : ℕ → ℤ → ℕ → RoundBitWord
+at n a r = roundBitWord a r (format n (pos 0))
+
+sums : (sumOf (at 5 (pos 3) 1) (at 5 (pos 4) 1) ≡ roundBitDone (at 5 (pos 8) 1))
+    × (sumOf (at 5 (pos 15) 0) (at 5 (pos 0) 1) ≡ roundBitDone (at 5 (pos 15) 1))
+    × (sumOf (at 5 (pos 15) 0) (at 5 (pos 1) 0) ≡ roundBitRefused (cause 8 tt))
+    × (sumOf (at 5 (negsuc 15) 0) (at 5 (negsuc 0) 1) ≡ roundBitRefused (cause 8 tt))
+    × (differenceOf (at 5 (pos 5) 0) (at 5 (pos 5) 0) ≡ roundBitDone (at 5 (negsuc 0) 1))
+unfolding fitsWidth formatCheck wordCheck roundBitCheck roundBitFitted signChangeWord sumCheck sumWord sumOf differenceOf
+sums = (refl, refl, refl, refl, refl)
+
+cuts : (cutOf (at 11 (negsuc 717) 0) 2 ≡ cutAnswer Done (roundBitWord (negsuc 179) 1 (format 9 (pos 2))))
+    × (restOf (at 11 (negsuc 717) 0) 2 ≡ roundBitDone (at 11 (negsuc 1) 0))
+    × (cutOf (at 3 (pos 3) 0) 1 .outcome ≡ Done)
+    × (cutOf (at 3 (pos 3) 0) 2 ≡ cutAnswer (Refused (cause 5 tt)) (at 3 (pos 3) 0))
+    × (evenCutOf (at 5 (pos 6) 0) 2 ≡ evenCutAnswer Done (roundBitWord (pos 1) 1 (format 3 (pos 2))))
+    × (evenCutOf (at 5 (pos 2) 0) 2 ≡ evenCutAnswer Done (roundBitWord (pos 0) 0 (format 3 (pos 2))))
+    × (widenOf (at 4 (pos 5) 1) 2 ≡ roundBitDone (roundBitWord (pos 23) 1 (format 6 (negsuc 1))))
+unfolding fitsWidth floorBy lowest digit digitsBelow anyBelow lowDigits formatCheck wordCheck narrowerCheck answerCheck roundBitCheck cutCheck cutWord cutAnswer cutOf restWord restOf evenRoundBit evenCutWord evenCutAnswer evenCutOf widenCheck widenWord widenOf
+cuts = (refl, refl, refl, refl, refl, refl, refl)
+
+products : (productOf (at 5 (pos 11) 1) (at 5 (pos 9) 1) ≡ roundBitDone (at 9 (pos 119) 1))
+    × (productOf (at 5 (negsuc 11) 0) (at 5 (pos 9) 1) ≡ roundBitDone (at 9 (negsuc 119) 0))
+    × (productOf (at 5 (negsuc 0) 1) (at 5 (pos 9) 1) ≡ roundBitDone (at 9 (negsuc 0) 1))
+    × (productOf (at 32 (pos 0) 0) (at 32 (pos 0) 0) .outcome ≡ Done)
+    × (toPlainOf (at 5 (pos 15) 1) ≡ plainRefused (cause 8 tt))
+unfolding fitsWidth formatCheck wordCheck answerCheck plainFitted roundBitCheck magnitudeProduct multiplied productCheck productWord productOf toPlainWord toPlainOf
+products = (refl, refl, refl, refl, refl)

@@ -1,0 +1,5 @@
+-- What is true of round-bit words, each fact once, at every width and depth. Values are in half units.
+pub mod Signs
+pub mod Added
+pub mod Sums
+pub mod Products

@@ -1,0 +1,231 @@
+-- Sum and difference, and the way to and from plain words: what they do to values, and to each other. Assumes nothing.
+use Prim.Native.Nat.{ℕ, _+_, _-_, _^_, _≤_, _<_, min}
+use native.Mathlib.Omega.{arith}
+use mathlib.Core.Path.{_≡_, refl, sym, ap, _∙_}
+use mathlib.Core.Bool.{Bool, true, false}
+use mathlib.Core.Logic.{_⊎_, inl, inr}
+use lib.Bits.{or-zero-r, and-zero-r}
+use lib.Pow.{pow-pos}
+use lib.Signed.{mag}
+use lib.IntN.{ℤ, pos, negsuc, _+ℤ_, _*ℤ_, +ℤ-idr, -ℤ-+ℤ-cancel}
+use borrow.Author.Tests.{ltb-false, le-ltb}
+use Rattle.integers.specs.Numbers.{fitsWidth}
+use Rattle.integers.proofs.Kit.{ints, plus-law}
+use Rattle.integers.proofs.Width.{times-plus, times-neg, fits-is, carry-past}
+use Rattle.words.specs.Words.{value}
+use Rattle.words.specs.Refusals.{cause, refuse, differ}
+use Rattle.words.specs.Formats.{format}
+use Rattle.words.specs.Plain.{plainValue, plainCheck, plainRefused, plainDone, plainFitted}
+use Rattle.words.specs.RoundBit.{roundBitWord, roundBitValue, roundBitCheck, roundBitRefused, roundBitDone, roundBitFitted, _andThen_}
+use Rattle.words.specs.declared.Cause.the-variants.{Mismatch}
+use Rattle.words.specs.declared.Format.{Format}
+use Rattle.words.specs.declared.Outcome.the-variants.{Done, Refused}
+use Rattle.words.specs.declared.PlainWord.{PlainWord}
+use Rattle.words.specs.declared.RoundBit.{RoundBit}
+use Rattle.words.specs.declared.RoundBitWord.{RoundBitWord}
+use Rattle.words.proofs.Laws.{Right, right, word-right, passed}
+use Rattle.words.proofs.Operands.{same-format, format-same, both-right, right-both, fit-passes, done-passed, done-fits}
+use Rattle.round_bit.specs.Cuts.{signChangeWord}
+use Rattle.round_bit.specs.Sums.{added, sumWord, sumCheck, sumOf, differenceOf}
+use Rattle.round_bit.specs.Conversions.{toPlainWord, toPlainOf, fromPlainWord, fromPlainOf}
+use Rattle.round_bit.proofs.Laws.Signs.{signs-value}
+use Rattle.round_bit.proofs.Laws.Added.{added-value, added-bit, added-comm, added-counts, added-signs, added-self}
+
+-- ---- what the check of a sum tells, and what it asks; the difference has the same
+record Operands (x y : RoundBitWord) : Type 0 where
+  first : Right (x .format) (x .number .0) (x .number .1)
+  second : Right (y .format) (y .number .0) (y .number .1)
+  same : x .format ≡ y .format
+
+sum-check-tells : (x y : RoundBitWord) → sumCheck x y ≡ Done → Operands x y
+unfolding sumCheck roundBitCheck
+sum-check-tells x y e =
+    let p = both-right (x .format) (x .number .0) (x .number .1) (y .format) (y .number .0) (y .number .1) (refuse 4 (differ (x .format) (y .format))) e in
+    record { first = p .0; second = p .1; same = same-format (x .format) (y .format) (passed Mismatch _ (p .2)) }
+
+sum-check-asks : (x y : RoundBitWord) → Operands x y → sumCheck x y ≡ Done
+unfolding sumCheck roundBitCheck
+sum-check-asks x y p = right-both (p .first) (p .second) (rw (p .same, format-same (y .format)))
+
+-- a word that fits is its answer
+word-fits : (w : RoundBitWord) → mag (w .number .0) < 2 ^ (w .format .width - 1) → roundBitFitted w ≡ roundBitDone w
+unfolding roundBitFitted
+word-fits w h = rw (fit-passes (w .format) (w .number .0) h)
+
+-- ---- a done answer that was checked for x and y and is x added to z: z is y in a sum, and y sign-changed in a difference
+module _ (x y z : RoundBitWord) (done : (sumCheck x y andThen roundBitFitted (sumWord x z)) .outcome ≡ Done) where
+  answer-fits : (sumCheck x y ≡ Done) × (mag (sumWord x z .number .0) < 2 ^ (sumWord x z .format .width - 1))
+  unfolding roundBitFitted
+  answer-fits =
+      done-fits roundBitRefused (λ a. a .outcome) (λ c. refl) (sumCheck x y) (sumWord x z .format) (sumWord x z .number .0) (roundBitDone (sumWord x z)) done
+
+  answer-operands : Operands x y
+  answer-operands = sum-check-tells x y (answer-fits .0)
+
+  answer-is-word : (sumCheck x y andThen roundBitFitted (sumWord x z)) ≡ roundBitDone (sumWord x z)
+  answer-is-word = rw (answer-fits .0) (word-fits (sumWord x z) (answer-fits .1))
+
+  answer-closed : z .number .1 ≤ 1 → roundBitCheck ((sumCheck x y andThen roundBitFitted (sumWord x z)) .word) ≡ Done
+  unfolding sumWord roundBitCheck
+  answer-closed h =
+      let n = added (x .number) (z .number) in
+      let g = answer-operands .first in
+      rw answer-is-word
+      (word-right (x .format) (n .0) (n .1) (record { format = g .format; size = answer-fits .1; bit = added-bit (x .number) (z .number) (g .bit) h }))
+
+  answer-value : roundBitValue ((sumCheck x y andThen roundBitFitted (sumWord x z)) .word) ≡ roundBitValue x +ℤ roundBitValue z
+  unfolding sumWord value
+  answer-value =
+      rw (answer-is-word, added-value (x .number) (z .number))
+      (times-plus (pos 2) (x .number .0 +ℤ pos (x .number .1)) (z .number .0 +ℤ pos (z .number .1)))
+
+-- ---- closed: the word of a done answer passes its own check
+pub sum-closed : (x y : RoundBitWord) → sumOf x y .outcome ≡ Done → roundBitCheck (sumOf x y .word) ≡ Done
+unfolding sumOf
+sum-closed x y e = answer-closed x y y e (answer-operands x y y e .second .bit)
+
+pub difference-closed : (x y : RoundBitWord) → differenceOf x y .outcome ≡ Done → roundBitCheck (differenceOf x y .word) ≡ Done
+unfolding differenceOf signChangeWord
+difference-closed x y e = answer-closed x y (signChangeWord y) e (omega arith)
+
+pub to-plain-closed : (w : RoundBitWord) → toPlainOf w .outcome ≡ Done → plainCheck (toPlainOf w .word) ≡ Done
+unfolding toPlainOf toPlainWord plainFitted plainCheck roundBitCheck
+to-plain-closed w e =
+    let a = w .number .0 +ℤ pos (w .number .1) in
+    let p = done-fits plainRefused (λ a. a .outcome) (λ c. refl) (roundBitCheck w) (w .format) a (plainDone (toPlainWord w)) e in
+    let g = right (w .format) (w .number .0) (w .number .1) (p .0) in
+    rw (p .0, fit-passes (w .format) a (p .1)) (word-right (w .format) a 0 (record { format = g .format; size = p .1; bit = omega arith }))
+
+pub from-plain-closed : (w : PlainWord) → fromPlainOf w .outcome ≡ Done → roundBitCheck (fromPlainOf w .word) ≡ Done
+unfolding fromPlainOf fromPlainWord plainCheck roundBitCheck
+from-plain-closed w e =
+    let p = done-passed roundBitRefused (λ a. a .outcome) (λ c. refl) (plainCheck w) (roundBitDone (fromPlainWord w)) e in
+    rw p p
+
+-- ---- sum: the values add exactly; it is commutative digit for digit; (0,0) is neutral on both sides
+pub sum-value : (x y : RoundBitWord) → sumOf x y .outcome ≡ Done → roundBitValue (sumOf x y .word) ≡ roundBitValue x +ℤ roundBitValue y
+unfolding sumOf
+sum-value x y e = answer-value x y y e
+
+pub sum-comm : (x y : RoundBitWord) → sumCheck x y ≡ Done → sumOf x y ≡ sumOf y x
+unfolding sumOf sumWord
+sum-comm x y e =
+    let g = sum-check-tells x y e in
+    let back = sum-check-asks y x (record { first = g .second; second = g .first; same = sym (g .same) }) in
+    let same : sumWord x y ≡ sumWord y x = λ i. record { number = added-comm (x .number) (y .number) i; format = g .same i } in
+    rw (e, back, same)
+
+zero-passes : (w : RoundBitWord) → roundBitCheck w ≡ Done → sumCheck w (roundBitWord (pos 0) 0 (w .format)) ≡ Done
+unfolding roundBitCheck
+zero-passes w e =
+    let g = right (w .format) (w .number .0) (w .number .1) e in
+    let none : Right (w .format) (pos 0) 0 = record { format = g .format; size = pow-pos (w .format .width - 1); bit = omega arith } in
+    sum-check-asks w (roundBitWord (pos 0) 0 (w .format)) (record { first = g; second = none; same = refl })
+
+pub sum-zero : (w : RoundBitWord) → roundBitCheck w ≡ Done → sumOf w (roundBitWord (pos 0) 0 (w .format)) ≡ roundBitDone w
+unfolding sumOf sumWord roundBitCheck
+sum-zero w e =
+    let n = w .number in
+    let same : sumWord w (roundBitWord (pos 0) 0 (w .format)) ≡ w = rw (and-zero-r (n .1), or-zero-r (n .1), +ℤ-idr (n .0), +ℤ-idr (n .0)) in
+    let g = right (w .format) (n .0) (n .1) e in
+    rw (zero-passes w e, same) (word-fits w (g .size))
+
+pub zero-sum : (w : RoundBitWord) → roundBitCheck w ≡ Done → sumOf (roundBitWord (pos 0) 0 (w .format)) w ≡ roundBitDone w
+zero-sum w e = sym (sum-comm w (roundBitWord (pos 0) 0 (w .format)) (zero-passes w e)) ∙ sum-zero w e
+
+-- ---- several words, however grouped: the number is the sum of the numbers plus the count of round bits, less 1 if there is any, and the
+-- round bit says whether there is any
+pub data Grouping : Type 0 where
+  one : RoundBit → Grouping
+  both : Grouping → Grouping → Grouping
+
+abbrev pub grouped : Grouping → RoundBit
+grouped (one n) = n
+grouped (both s t) = added (grouped s) (grouped t)
+
+abbrev pub numbers : Grouping → ℤ
+numbers (one n) = n .0
+numbers (both s t) = numbers s +ℤ numbers t
+
+abbrev pub roundBits : Grouping → ℕ
+roundBits (one n) = n .1
+roundBits (both s t) = roundBits s + roundBits t
+
+abbrev pub Bits : Grouping → Type 0
+Bits (one n) = n .1 ≤ 1
+Bits (both s t) = Bits s × Bits t
+
+pub sum-grouped : (t : Grouping) → Bits t → grouped t ≡ record { 0 = numbers t +ℤ pos (roundBits t - 1); 1 = min (roundBits t) 1 }
+sum-grouped (one n) h =
+    let number : n .0 ≡ n .0 +ℤ pos (n .1 - 1) = omega (ints, plus-law (n .0) (pos (n .1 - 1))) in
+    let bit : n .1 ≡ min (n .1) 1 = omega arith in
+    λ i. record { 0 = number i; 1 = bit i }
+sum-grouped (both s t) h = rw (sum-grouped s (h .0), sum-grouped t (h .1)) (added-counts (numbers s) (numbers t) (roundBits s) (roundBits t))
+
+-- ---- -(x + y) and (-x) + (-y) have the same value, and the pair (0,0), (0,1) has not the same digits
+pub sum-sign-value : (x y : RoundBitWord) → sumOf x y .outcome ≡ Done → roundBitValue (signChangeWord (sumWord x y)) ≡ roundBitValue (sumWord (signChangeWord x) (signChangeWord y))
+unfolding sumOf sumWord signChangeWord value
+sum-sign-value x y e =
+    let g = answer-operands x y y e in
+    ap (λ (z : ℤ). pos 2 *ℤ z) (added-signs (x .number) (y .number) (g .first .bit) (g .second .bit))
+
+pub sum-sign-digits : (f : Format) → signChangeWord (sumWord (roundBitWord (pos 0) 0 f) (roundBitWord (pos 0) 1 f)) ≡ sumWord (signChangeWord (roundBitWord (pos 0) 0 f)) (signChangeWord (roundBitWord (pos 0) 1 f)) → ⊥
+unfolding sumWord signChangeWord
+sum-sign-digits f e = let bit : _≡_ {A = ℕ} 0 1 = ap (λ (w : RoundBitWord). w .number .1) e in omega arith
+
+-- ---- difference: x less y, and x less x is (-1,1), value 0, for every word
+pub difference-value : (x y : RoundBitWord) → differenceOf x y .outcome ≡ Done → roundBitValue (differenceOf x y .word) +ℤ roundBitValue y ≡ roundBitValue x
+unfolding differenceOf signChangeWord value
+difference-value x y e =
+    let a = x .number .0 +ℤ pos (x .number .1) in
+    let b = y .number .0 +ℤ pos (y .number .1) in
+    rw (
+      answer-value x y (signChangeWord y) e,
+      signs-value (y .number) (answer-operands x y (signChangeWord y) e .second .bit),
+      times-neg (pos 2) b,
+      -ℤ-+ℤ-cancel (pos 2 *ℤ a) (pos 2 *ℤ b),
+    )
+
+pub difference-self : (w : RoundBitWord) → roundBitCheck w ≡ Done → differenceOf w w ≡ roundBitDone (roundBitWord (negsuc 0) 1 (w .format))
+unfolding differenceOf sumWord signChangeWord roundBitCheck
+difference-self w e =
+    let g = right (w .format) (w .number .0) (w .number .1) e in
+    let c = sum-check-asks w w (record { first = g; second = g; same = refl }) in
+    let zero = roundBitWord (negsuc 0) 1 (w .format) in
+    let same : sumWord w (signChangeWord w) ≡ zero = λ i. record { number = added-self (w .number) (g .bit) i; format = w .format } in
+    rw (c, same) (word-fits zero (pow-pos (w .format .width - 1)))
+
+-- ---- to plain and from plain keep the value; to plain after from plain is the word; to plain refuses only the one value 2 ^ (n - 1)
+pub to-plain-value : (w : RoundBitWord) → plainValue (toPlainWord w) ≡ roundBitValue w
+unfolding toPlainWord value
+to-plain-value w = refl
+
+pub from-plain-value : (w : PlainWord) → roundBitValue (fromPlainWord w) ≡ plainValue w
+unfolding fromPlainWord value
+from-plain-value w = rw (+ℤ-idr (w .number .0))
+
+pub from-to-plain : (w : PlainWord) → plainCheck w ≡ Done → toPlainOf (fromPlainWord w) ≡ plainDone w
+unfolding toPlainOf toPlainWord fromPlainWord plainFitted plainCheck roundBitCheck
+from-to-plain w e =
+    let g = right (w .format) (w .number .0) 0 e in
+    rw (e, +ℤ-idr (w .number .0), fit-passes (w .format) (w .number .0) (g .size))
+
+pub to-plain-refuses : (w : RoundBitWord) → roundBitCheck w ≡ Done → (toPlainOf w .outcome ≡ Done) ⊎ ((toPlainOf w .outcome ≡ Refused (cause 8 tt)) × (w .number .0 +ℤ pos (w .number .1) ≡ pos (2 ^ (w .format .width - 1))))
+unfolding toPlainOf toPlainWord plainFitted roundBitCheck
+to-plain-refuses w e = told (fitsWidth a (w .format .width)) refl
+  where
+    a : ℤ
+    a = w .number .0 +ℤ pos (w .number .1)
+
+    p : ℕ
+    p = 2 ^ (w .format .width - 1)
+
+    told : (b : Bool) → fitsWidth a (w .format .width) ≡ b → (toPlainOf w .outcome ≡ Done) ⊎ ((toPlainOf w .outcome ≡ Refused (cause 8 tt)) × (a ≡ pos p))
+    told true f = inl (rw (e, f))
+    told false f =
+        let g = right (w .format) (w .number .0) (w .number .1) e in
+        inr (rw (e, f), carry-past (w .number .0) (w .number .1) p (g .size) (g .bit) (ltb-false (mag a) p (sym (fits-is a (w .format .width)) ∙ f)))
+
+pub to-plain-past : (w : RoundBitWord) → roundBitCheck w ≡ Done → w .number .0 +ℤ pos (w .number .1) ≡ pos (2 ^ (w .format .width - 1)) → toPlainOf w .outcome ≡ Refused (cause 8 tt)
+unfolding toPlainOf toPlainWord plainFitted
+to-plain-past w e h = let n = w .format .width in rw (e, h, fits-is (pos (2 ^ (n - 1))) n, le-ltb (2 ^ (n - 1)) (2 ^ (n - 1)) (omega arith))

@@ -1,0 +1,103 @@
+-- Wrong answers: rows of an operation, its arguments and an answer that it must not give, each tried against the definition by one
+-- computed test. With the uniqueness of each contract this shuts them out of the code.
+use Prim.Native.Nat.{ℕ}
+use mathlib.Core.Bool.{Bool, not}
+use mathlib.Core.List.{List, [], _∷_}
+use mathlib.Core.Path.{_≡_, refl}
+use mathlib.Core.Bool.{true}
+use lib.IntN.{ℤ, pos, negsuc}
+use lib.ListN.{length, getD}
+use Rattle.integers.specs.Numbers.{fitsWidth, floorBy, lowest, digit, digitsBelow, anyBelow, lowDigits}
+use Rattle.integers.specs.Lists.{firstBad, all}
+use Rattle.words.specs.Refusals.{formatCheck, wordCheck}
+use Rattle.words.specs.Formats.{format, narrowerCheck, answerCheck}
+use Rattle.words.specs.Plain.{plainWord, plainCheck, plainFitted}
+use Rattle.words.specs.RoundBit.{roundBitWord, roundBitCheck, roundBitFitted}
+use Rattle.words.specs.Flat.{Flat, flat, laidFlat, flatPlain, flatRoundBit, sameFlat}
+use Rattle.words.specs.declared.PlainWord.{PlainWord}
+use Rattle.words.specs.declared.RoundBitWord.{RoundBitWord}
+use Rattle.round_bit.specs.Cuts.{signChangeWord, signChangeOf, cutCheck, cutWord, cutAnswer, cutOf, restWord, restOf, evenRoundBit, evenCutWord, evenCutAnswer, evenCutOf, widenCheck, widenWord, widenOf}
+use Rattle.round_bit.specs.Sums.{sumCheck, sumWord, sumOf, differenceOf}
+use Rattle.round_bit.specs.Products.{magnitudeProduct, multiplied, productCheck, productWord, productOf}
+use Rattle.round_bit.specs.Conversions.{toPlainWord, toPlainOf, fromPlainWord, fromPlainOf}
+
+data Row : Type 0 where
+  signChange toPlain : RoundBitWord → Flat → Row
+  cut rest evenCut widen : RoundBitWord → ℕ → Flat → Row
+  sum difference product : RoundBitWord → RoundBitWord → Flat → Row
+  fromPlain : PlainWord → Flat → Row
+
+abbrev answer : Row → Flat
+answer (signChange w x) = flatRoundBit (signChangeOf w)
+answer (toPlain w x) = flatPlain (toPlainOf w)
+answer (cut w d x) = let a = cutOf w d in laidFlat (a .outcome) (a .word .number .0) (a .word .number .1) (a .word .format)
+answer (rest w d x) = flatRoundBit (restOf w d)
+answer (evenCut w d x) = let a = evenCutOf w d in laidFlat (a .outcome) (a .word .number .0) (a .word .number .1) (a .word .format)
+answer (widen w d x) = flatRoundBit (widenOf w d)
+answer (sum v w x) = flatRoundBit (sumOf v w)
+answer (difference v w x) = flatRoundBit (differenceOf v w)
+answer (product v w x) = flatRoundBit (productOf v w)
+answer (fromPlain w x) = flatRoundBit (fromPlainOf w)
+
+abbrev claimed : Row → Flat
+claimed (signChange w x) = x
+claimed (toPlain w x) = x
+claimed (cut w d x) = x
+claimed (rest w d x) = x
+claimed (evenCut w d x) = x
+claimed (widen w d x) = x
+claimed (sum v w x) = x
+claimed (difference v w x) = x
+claimed (product v w x) = x
+claimed (fromPlain w x) = x
+
+-- a word of unit 0; a done answer of unit 0; the blank answer of a refusal
+abbrev at : ℕ → ℤ → ℕ → RoundBitWord
+at n a r = roundBitWord a r (format n (pos 0))
+
+abbrev done : ℕ → ℤ → ℕ → Flat
+done n a r = flat 0 a r n (pos 0)
+
+abbrev refused : ℕ → Flat
+refused o = flat o (pos 0) 0 2 (pos 0)
+
+abbrev wrong : List Row
+wrong =
+    -- refuses always; the input copied through
+    signChange (at 5 (pos 3) 1) (refused 3)
+    ∷ signChange (at 5 (pos 3) 1) (done 5 (pos 3) 1)
+    -- division toward zero; the old round bit kept
+    ∷ cut (at 11 (negsuc 717) 0) 2 (flat 0 (negsuc 178) 1 9 (pos 2))
+    ∷ cut (at 5 (pos 4) 1) 1 (flat 0 (pos 2) 1 4 (pos 1))
+    -- without the old round bit; the digits read without their sign
+    ∷ rest (at 5 (pos 4) 1) 2 (done 5 (pos 0) 0)
+    ∷ rest (at 11 (negsuc 717) 0) 2 (done 11 (pos 2) 0)
+    -- a tie rounded up; the plain cut's refusal let through
+    ∷ evenCut (at 5 (pos 2) 0) 2 (flat 0 (pos 0) 1 3 (pos 2))
+    ∷ evenCut (at 3 (pos 3) 0) 2 (flat 0 (pos 0) 1 1 (pos 2))
+    -- the round bit dropped in the number, and altogether
+    ∷ widen (at 4 (pos 5) 1) 2 (flat 0 (pos 20) 1 6 (negsuc 1))
+    ∷ widen (at 4 (pos 5) 1) 2 (flat 0 (pos 20) 0 6 (negsuc 1))
+    -- the fit tested on the value; the carry of two round bits lost
+    ∷ sum (at 5 (negsuc 15) 0) (at 5 (negsuc 0) 1) (done 5 (negsuc 16) 1)
+    ∷ sum (at 5 (pos 3) 1) (at 5 (pos 4) 1) (done 5 (pos 7) 1)
+    -- x less x as (0,0); the sign change of (-x) + y
+    ∷ difference (at 5 (pos 5) 0) (at 5 (pos 5) 0) (done 5 (pos 0) 0)
+    ∷ difference (at 5 (pos 0) 0) (at 5 (pos 1) 0) (done 5 (negsuc 0) 0)
+    -- a cross term dropped; the sign forgotten
+    ∷ product (at 5 (pos 11) 1) (at 5 (pos 9) 1) (done 9 (pos 108) 1)
+    ∷ product (at 5 (negsuc 11) 0) (at 5 (pos 9) 1) (done 9 (pos 119) 1)
+    -- the round bit dropped; 2^(n-1) let through
+    ∷ toPlain (at 5 (pos 3) 1) (done 5 (pos 3) 0)
+    ∷ toPlain (at 5 (pos 15) 1) (done 5 (pos 16) 0)
+    -- the round bit set; one fixed word
+    ∷ fromPlain (plainWord (pos 3) (format 5 (pos 0))) (done 5 (pos 3) 1)
+    ∷ fromPlain (plainWord (pos 3) (format 5 (pos 0))) (done 2 (pos 0) 0)
+    ∷ []
+
+abbrev differs : Row → Bool
+differs r = not (sameFlat (answer r) (claimed r))
+
+all-wrong : all (length wrong) (λ k. differs (getD wrong k (toPlain (at 5 (pos 3) 1) (refused 3)))) ≡ true
+unfolding firstBad fitsWidth floorBy lowest digit digitsBelow anyBelow lowDigits formatCheck wordCheck narrowerCheck answerCheck plainCheck plainFitted roundBitCheck roundBitFitted signChangeWord signChangeOf cutCheck cutWord cutAnswer cutOf restWord restOf evenRoundBit evenCutWord evenCutAnswer evenCutOf widenCheck widenWord widenOf sumCheck sumWord sumOf differenceOf magnitudeProduct multiplied productCheck productWord productOf toPlainWord toPlainOf fromPlainWord fromPlainOf
+all-wrong = refl

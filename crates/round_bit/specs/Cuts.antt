@@ -1,0 +1,79 @@
+-- Document 01, "Round-bit words": sign change, cut, rest of a cut, even cut, widening on the right.
+use Prim.Native.Nat.{ℕ, zero, suc, _-_, _*_, _^_}
+use lib.Bits.{bitAnd, bitOr}
+use lib.IntN.{ℤ, pos, _+ℤ_, _*ℤ_}
+use Rattle.integers.specs.Numbers.{turned, floorBy, digit, anyBelow, lowDigits}
+use Rattle.words.specs.Refusals.{_orElse_}
+use Rattle.words.specs.Formats.{narrower, narrowerCheck, wider, answerCheck}
+use Rattle.words.specs.RoundBit.{roundBitWord, roundBitCheck, roundBitRefused, roundBitDone, _andThen_}
+use Rattle.words.specs.declared.Outcome.{Outcome}
+use Rattle.words.specs.declared.Outcome.the-variants.{Done, Refused}
+use Rattle.words.specs.declared.RoundBit.{RoundBit}
+use Rattle.words.specs.declared.RoundBitWord.{RoundBitWord}
+use Rattle.words.specs.declared.RoundBitAnswer.{RoundBitAnswer}
+use Rattle.round_bit.specs.declared.CutAnswer.{CutAnswer}
+use Rattle.round_bit.specs.declared.EvenCutAnswer.{EvenCutAnswer}
+
+-- "Sign change: (-1-a, 1-r)."
+abbrev pub signChanged : RoundBit → RoundBit
+signChanged n = record { 0 = turned (n .0); 1 = 1 - n .1 }
+
+unfoldable pub signChangeWord : RoundBitWord → RoundBitWord
+signChangeWord w = record { number = signChanged (w .number); format = w .format }
+
+unfoldable pub signChangeOf : RoundBitWord → RoundBitAnswer
+signChangeOf w = roundBitCheck w andThen roundBitDone (signChangeWord w)
+
+-- "Cut by d: d = 0 returns the word. For d >= 1 the answer is (floor(a / 2^d), digit d-1 of a), width n-d, unit e+d. The old round bit is dropped."
+unfoldable pub cutWord : RoundBitWord → ℕ → RoundBitWord
+cutWord w zero = w
+cutWord w (suc k) = roundBitWord (floorBy (w .number .0) (suc k)) (digit (w .number .0) k) (narrower (w .format) (suc k))
+
+-- 1, 2, 3, then 5, then 7
+unfoldable pub cutCheck : RoundBitWord → ℕ → Outcome
+cutCheck w d = roundBitCheck w orElse narrowerCheck (w .format) d
+
+-- the answer of a cut: the word, or the refusal with the blank word
+unfoldable pub cutAnswer : Outcome → RoundBitWord → CutAnswer
+cutAnswer Done w = record { outcome = Done; word = w }
+cutAnswer (Refused c) w = record { outcome = Refused c; word = roundBitRefused c .word }
+
+unfoldable pub cutOf : RoundBitWord → ℕ → CutAnswer
+cutOf w d = cutAnswer (cutCheck w d) (cutWord w d)
+
+-- "Rest of a cut, refused as the cut is: a round-bit word of the old width and unit. For d = 0 it is (0,0). For d >= 1 its number is the
+-- low d digits read as two's complement, its round bit the old r."
+unfoldable pub restWord : RoundBitWord → ℕ → RoundBitWord
+restWord w zero = roundBitWord (pos 0) 0 (w .format)
+restWord w (suc k) = roundBitWord (lowDigits (w .number .0) (suc k)) (w .number .1) (w .format)
+
+unfoldable pub restOf : RoundBitWord → ℕ → RoundBitAnswer
+restOf w d = cutCheck w d andThen roundBitDone (restWord w d)
+
+-- "the new round bit is (T or b) and h, where h is digit d-1 of a, b is digit d, and T is 1 if any digit below d-1 is 1", for d = k + 1
+unfoldable pub evenRoundBit : ℤ → ℕ → ℕ
+evenRoundBit a k = bitAnd (bitOr (anyBelow a k) (digit a (suc k))) (digit a k)
+
+-- "Even cut by d: as the cut, except that for d >= 1" the new round bit is that
+unfoldable pub evenCutWord : RoundBitWord → ℕ → RoundBitWord
+evenCutWord w zero = w
+evenCutWord w (suc k) = roundBitWord (floorBy (w .number .0) (suc k)) (evenRoundBit (w .number .0) k) (narrower (w .format) (suc k))
+
+unfoldable pub evenCutAnswer : Outcome → RoundBitWord → EvenCutAnswer
+evenCutAnswer Done w = record { outcome = Done; word = w }
+evenCutAnswer (Refused c) w = record { outcome = Refused c; word = roundBitRefused c .word }
+
+unfoldable pub evenCutOf : RoundBitWord → ℕ → EvenCutAnswer
+evenCutOf w d = evenCutAnswer (cutCheck w d) (evenCutWord w d)
+
+-- "Widen on the right by d: (a * 2^d + r * (2^d - 1), r), width n+d, unit e-d."
+unfoldable pub widenWord : RoundBitWord → ℕ → RoundBitWord
+widenWord w d =
+    roundBitWord ((w .number .0 *ℤ pos (2 ^ d)) +ℤ pos (w .number .1 * (2 ^ d - 1))) (w .number .1) (wider (w .format) d)
+
+-- 1, 2, 3, then 6, then 7
+unfoldable pub widenCheck : RoundBitWord → ℕ → Outcome
+widenCheck w d = roundBitCheck w orElse answerCheck (wider (w .format) d)
+
+unfoldable pub widenOf : RoundBitWord → ℕ → RoundBitAnswer
+widenOf w d = widenCheck w d andThen roundBitDone (widenWord w d)

@@ -1,0 +1,54 @@
+-- Document 01, "Round-bit words": product.
+use Prim.Native.Nat.{ℕ, _+_, _-_}
+use mathlib.Core.Bool.{Bool, true, false, cond}
+use lib.Bits.{bitAnd}
+use lib.IntN.{ℤ, pos, _+ℤ_, _*ℤ_}
+use lib.Signed.{ltZ}
+use Rattle.words.specs.Refusals.{_orElse_}
+use Rattle.words.specs.Formats.{format, answerCheck}
+use Rattle.words.specs.RoundBit.{roundBitCheck, roundBitDone, _andThen_}
+use Rattle.words.specs.declared.Outcome.{Outcome}
+use Rattle.words.specs.declared.Format.{Format}
+use Rattle.words.specs.declared.RoundBit.{RoundBit}
+use Rattle.words.specs.declared.RoundBitWord.{RoundBitWord}
+use Rattle.words.specs.declared.RoundBitAnswer.{RoundBitAnswer}
+use Rattle.round_bit.specs.Cuts.{signChanged}
+
+-- "for operands with a, b >= 0 it is (ab + a rb + b ra, ra rb) (000, Definition 10)"
+unfoldable pub magnitudeProduct : RoundBit → RoundBit → RoundBit
+magnitudeProduct m n =
+    record { 0 = ((m .0 *ℤ n .0) +ℤ (m .0 *ℤ pos (n .1))) +ℤ (n .0 *ℤ pos (m .1)); 1 = bitAnd (m .1) (n .1) }
+
+abbrev pub negative : RoundBit → Bool
+negative n = ltZ (n .0) (pos 0)
+
+abbrev pub signChangedIf : Bool → RoundBit → RoundBit
+signChangedIf true n = signChanged n
+signChangedIf false n = n
+
+-- "An operand with a negative number is sign-changed first,"
+abbrev pub magnitude : RoundBit → RoundBit
+magnitude n = signChangedIf (negative n) n
+
+-- "and the answer is sign-changed if exactly one was."
+abbrev pub exactlyOne : Bool → Bool → Bool
+exactlyOne true true = false
+exactlyOne true false = true
+exactlyOne false b = b
+
+unfoldable pub multiplied : RoundBit → RoundBit → RoundBit
+multiplied m n = signChangedIf (exactlyOne (negative m) (negative n)) (magnitudeProduct (magnitude m) (magnitude n))
+
+-- "Product, width n+m-1, units multiplied"
+abbrev pub productFormat : Format → Format → Format
+productFormat f g = format (f .width + g .width - 1) (f .unit +ℤ g .unit)
+
+unfoldable pub productWord : RoundBitWord → RoundBitWord → RoundBitWord
+productWord x y = record { number = multiplied (x .number) (y .number); format = productFormat (x .format) (y .format) }
+
+-- 1, 2, 3 of the first, 1, 2, 3 of the second, then 6, then 7
+unfoldable pub productCheck : RoundBitWord → RoundBitWord → Outcome
+productCheck x y = roundBitCheck x orElse roundBitCheck y orElse answerCheck (productFormat (x .format) (y .format))
+
+unfoldable pub productOf : RoundBitWord → RoundBitWord → RoundBitAnswer
+productOf x y = productCheck x y andThen roundBitDone (productWord x y)

@@ -1,0 +1,29 @@
+-- Document 01, "Round-bit words": sum and difference.
+use lib.Bits.{bitAnd, bitOr}
+use lib.IntN.{ℤ, pos, _+ℤ_}
+use Rattle.words.specs.Refusals.{refuse, _orElse_, differ}
+use Rattle.words.specs.RoundBit.{roundBitCheck, roundBitFitted, _andThen_}
+use Rattle.words.specs.declared.Outcome.{Outcome}
+use Rattle.words.specs.declared.RoundBit.{RoundBit}
+use Rattle.words.specs.declared.RoundBitWord.{RoundBitWord}
+use Rattle.words.specs.declared.RoundBitAnswer.{RoundBitAnswer}
+use Rattle.round_bit.specs.Cuts.{signChangeWord}
+
+-- "Sum: (a + b + (ra and rb), ra or rb) in the common width"
+abbrev pub added : RoundBit → RoundBit → RoundBit
+added m n = record { 0 = (m .0 +ℤ n .0) +ℤ pos (bitAnd (m .1) (n .1)); 1 = bitOr (m .1) (n .1) }
+
+unfoldable pub sumWord : RoundBitWord → RoundBitWord → RoundBitWord
+sumWord x y = record { number = added (x .number) (y .number); format = x .format }
+
+-- 1, 2, 3 of the first, 1, 2, 3 of the second, then 4
+unfoldable pub sumCheck : RoundBitWord → RoundBitWord → Outcome
+sumCheck x y = roundBitCheck x orElse roundBitCheck y orElse refuse 4 (differ (x .format) (y .format))
+
+-- then 8, of the number and not of the value
+unfoldable pub sumOf : RoundBitWord → RoundBitWord → RoundBitAnswer
+sumOf x y = sumCheck x y andThen roundBitFitted (sumWord x y)
+
+-- "Difference: the sum with the second operand's sign changed."
+unfoldable pub differenceOf : RoundBitWord → RoundBitWord → RoundBitAnswer
+differenceOf x y = sumCheck x y andThen roundBitFitted (sumWord x (signChangeWord y))

@@ -1,0 +1,58 @@
+-- What the checks of two operands and the refusal 8 tell, and that a done answer passed its check, for every kind of word. Assumes nothing.
+use Prim.Native.Nat.{ℕ, _-_, _^_, _<_}
+use mathlib.Core.Path.{_≡_, refl, sym, _∙_}
+use mathlib.Core.Bool.{Bool, true, false}
+use lib.Dec.{eqb}
+use lib.IntN.{ℤ}
+use lib.Signed.{mag}
+use borrow.Author.Tests.{not-false, eqb-true, eq-eqb}
+use Rattle.integers.specs.Numbers.{eqZ}
+use Rattle.integers.proofs.Width.{eqZ-same, same-eqZ, fits-size, by-fits}
+use Rattle.words.specs.Words.{outside}
+use Rattle.words.specs.Refusals.{refuse, _orElse_, wordCheck, differ, after}
+use Rattle.words.specs.declared.Cause.{Cause}
+use Rattle.words.specs.declared.Cause.the-variants.{NumberPast}
+use Rattle.words.specs.declared.Outcome.{Outcome}
+use Rattle.words.specs.declared.Outcome.the-variants.{Done, Refused}
+use Rattle.words.specs.declared.Format.{Format}
+use Rattle.words.proofs.Laws.{passed, both-passed, both-pass, refused-not-done, and-both, Right, right, word-right}
+
+-- ---- operands of one format, both ways
+pub same-format : (f g : Format) → differ f g ≡ false → f ≡ g
+same-format f g e =
+    let p = and-both (eqb (f .width) (g .width)) (eqZ (f .unit) (g .unit)) (not-false _ e) in
+    let width = eqb-true (f .width) (g .width) (p .0) in
+    let unit = eqZ-same (f .unit) (g .unit) (p .1) in
+    λ i. record { width = width i; unit = unit i }
+
+pub format-same : (f : Format) → differ f f ≡ false
+format-same f = rw (eq-eqb (f .width) (f .width) refl, same-eqZ (f .unit) (f .unit) refl)
+
+-- ---- two operands and a third check, both ways
+pub both-right : (f : Format) (x : ℤ) (r : ℕ) (g : Format) (y : ℤ) (s : ℕ) (o : Outcome) → (wordCheck f x r orElse wordCheck g y s orElse o) ≡ Done → Right f x r × Right g y s × (o ≡ Done)
+both-right f x r g y s o e =
+    let p = both-passed (wordCheck f x r) (wordCheck g y s orElse o) e in
+    let q = both-passed (wordCheck g y s) o (p .1) in
+    (right f x r (p .0), right g y s (q .0), q .1)
+
+pub right-both : {f : Format} {x : ℤ} {r : ℕ} {g : Format} {y : ℤ} {s : ℕ} {o : Outcome} → Right f x r → Right g y s → o ≡ Done → (wordCheck f x r orElse wordCheck g y s orElse o) ≡ Done
+right-both {f} {x} {r} {g} {y} {s} p q e = both-pass (word-right f x r p) (both-pass (word-right g y s q) e)
+
+-- ---- the refusal 8 not given: what that tells, and what it asks
+pub fit-passed : (f : Format) (x : ℤ) → refuse 8 (outside f x) ≡ Done → mag x < 2 ^ (f .width - 1)
+fit-passed f x e = fits-size x (f .width) (not-false _ (passed NumberPast (outside f x) e))
+
+pub fit-passes : (f : Format) (x : ℤ) → mag x < 2 ^ (f .width - 1) → refuse 8 (outside f x) ≡ Done
+fit-passes f x h = rw (by-fits x (f .width) h)
+
+-- ---- a done answer of any kind passed its check; `refused` makes the refusals of the kind
+module _ {A : Type 0} (refused : Cause → A) (outcome : A → Outcome) (told : (c : Cause) → outcome (refused c) ≡ Refused c) where
+  pub done-passed : (o : Outcome) (a : A) → outcome (after refused o a) ≡ Done → o ≡ Done
+  done-passed Done a e = refl
+  done-passed (Refused c) a e = absurd (refused-not-done (sym (told c) ∙ e))
+
+  -- and where 8 was asked last, its number fits
+  pub done-fits : (o : Outcome) (f : Format) (x : ℤ) (a : A) → outcome (after refused o (after refused (refuse 8 (outside f x)) a)) ≡ Done → (o ≡ Done) × (mag x < 2 ^ (f .width - 1))
+  done-fits o f x a e =
+      let p = done-passed o (after refused (refuse 8 (outside f x)) a) e in
+      (p, fit-passed f x (done-passed (refuse 8 (outside f x)) a (rw p at e)))
