@@ -5,15 +5,15 @@ use native.Mathlib.Omega.{arith}
 use native.Mathlib.Nat.{div-add-mod', mod-lt, mul-le-mul-right, pow-succ'}
 use native.Mathlib.Numerals.{add-one}
 use lib.Bits.{bitOr}
-use lib.Pow.{pow-pos}
+use lib.Pow.{pow-pos, suc-ones}
 use lib.IntN.{ℤ, pos, negsuc, _+ℤ_, _-ℤ_, _*ℤ_}
 use lib.Signed.{mag}
-use Rattle.integers.specs.Numbers.{floorBy, turned, lowest, digit, digitsBelow, anyBelow, lowDigits}
+use Rattle.integers.specs.Numbers.{floorBy, turned, lowest, cleared, digit, digitsBelow, anyBelow, lowDigits}
 use Rattle.integers.proofs.Kit.{up, down, ints, plus-law, minus-law, times-law, by-size}
-use Rattle.integers.proofs.Floor.{floor-low, floor-high, floor-floor, floor-none, floor-turned, turned-pos, turned-negsuc}
+use Rattle.integers.proofs.Floor.{floor-low, floor-high, floor-floor, floor-none, floor-turned, floor-widened, turned-pos, turned-negsuc}
 
 -- ---- a digit is 0 or 1, and is what a floor has over twice the next one
-lowest-law : (y : ℤ) → up y + 2 * down (floorBy y 1) ≡ lowest y + 2 * up (floorBy y 1) + down y
+pub lowest-law : (y : ℤ) → up y + 2 * down (floorBy y 1) ≡ lowest y + 2 * up (floorBy y 1) + down y
 unfolding lowest floorBy
 lowest-law (pos a) = omega (arith, div-add-mod' a 2)
 lowest-law (negsuc a) = omega (arith, div-add-mod' a 2, mod-lt a {m = 2} (omega arith))
@@ -22,6 +22,15 @@ pub lowest-le : (y : ℤ) → lowest y ≤ 1
 unfolding lowest
 lowest-le (pos a) = omega (arith, mod-lt a {m = 2} (omega arith))
 lowest-le (negsuc a) = omega arith
+
+-- ---- the lowest digit cleared: twice the floor of a half, and no other digit moves
+pub cleared-is : (x : ℤ) → cleared x ≡ floorBy x 1 *ℤ pos 2
+unfolding cleared
+cleared-is x = omega (ints, lowest-law x, minus-law x (pos (lowest x)), times-law (floorBy x 1) (pos 2))
+
+pub cleared-law : (x : ℤ) → up (cleared x) + lowest x + down x ≡ up x + down (cleared x)
+unfolding cleared
+cleared-law x = omega (arith, minus-law x (pos (lowest x)))
 
 pub digit-le : (x : ℤ) (i : ℕ) → digit x i ≤ 1
 unfolding digit
@@ -136,3 +145,37 @@ none-low x (suc k) e = some-below x (suc k) (omega (arith, below-more x k, both 
     both zero h q = omega arith
     both (suc zero) h q = absurd (omega (arith, below-range x k))
     both (suc (suc b)) h q = absurd (omega arith)
+
+-- ---- a number and its lowest digit make an even number
+pub lowest-evened : (y : ℤ) → lowest (y +ℤ pos (lowest y)) ≡ 0
+lowest-evened y =
+    let z = y +ℤ pos (lowest y) in omega (arith, lowest-law y, lowest-law z, lowest-le z, plus-law y (pos (lowest y)))
+
+-- ---- widening by k + 1 is widening 2 a + r by k, so that digit k of the widened number is r
+widened-twice : (a : ℤ) (r k : ℕ) → a *ℤ pos (2 ^ suc k) +ℤ pos (r * (2 ^ suc k - 1)) ≡ (pos 2 *ℤ a +ℤ pos r) *ℤ pos (2 ^ k) +ℤ pos (r * (2 ^ k - 1))
+widened-twice a r k = rw (pow-succ' 2 k, ← suc-ones k) (go (2 ^ k - 1))
+  where
+    go : (n : ℕ) → a *ℤ pos (2 * suc n) +ℤ pos (r * (2 * suc n - 1)) ≡ (pos 2 *ℤ a +ℤ pos r) *ℤ pos (suc n) +ℤ pos (r * (suc n - 1))
+    go n =
+        let y = pos 2 *ℤ a +ℤ pos r in
+        let twice : 2 * suc n - 1 ≡ n + suc n = omega arith in
+        let once : suc n - 1 ≡ n = omega arith in
+        omega (
+          ints,
+          times-law a (pos (2 * suc n)),
+          plus-law (a *ℤ pos (2 * suc n)) (pos (r * (2 * suc n - 1))),
+          ap (λ (i : ℕ). r * i) twice,
+          ap (λ (i : ℕ). r * i) once,
+          times-law y (pos (suc n)),
+          plus-law (y *ℤ pos (suc n)) (pos (r * (suc n - 1))),
+          ap (λ (i : ℕ). i * suc n) (plus-law (pos 2 *ℤ a) (pos r)),
+          ap (λ (i : ℕ). i * suc n) (times-law (pos 2) a .0),
+          ap (λ (i : ℕ). i * suc n) (times-law (pos 2) a .1),
+        )
+
+pub digit-widened : (a : ℤ) (r k : ℕ) → r ≤ 1 → digit (a *ℤ pos (2 ^ suc k) +ℤ pos (r * (2 ^ suc k - 1))) k ≡ r
+digit-widened a r k h =
+    let x = a *ℤ pos (2 ^ suc k) +ℤ pos (r * (2 ^ suc k - 1)) in
+    let y = pos 2 *ℤ a +ℤ pos r in
+    let above : floorBy x k ≡ y = ap (λ (z : ℤ). floorBy z k) (widened-twice a r k) ∙ floor-widened y r k h in
+    omega (arith, rw (above, floor-widened a r (suc k) h) at (digit-law x k), times-law (pos 2) a, plus-law (pos 2 *ℤ a) (pos r))

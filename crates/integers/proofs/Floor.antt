@@ -2,7 +2,7 @@
 use mathlib.Core.Path.{_≡_, refl, sym, ap, _∙_}
 use Prim.Native.Nat.{ℕ, zero, suc, _+_, _*_, _-_, _/_, _^_, _<_, _≤_}
 use native.Mathlib.Omega.{arith}
-use native.Mathlib.Nat.{lt-div-mul-add, div-mul-le-self, lt-of-mul-lt-mul-right, div-one}
+use native.Mathlib.Nat.{lt-div-mul-add, div-mul-le-self, lt-of-mul-lt-mul-right, mul-le-mul-right, div-one}
 use lib.Pow.{pow-pos, shr-lt, shr-shr}
 use lib.IntN.{ℤ, pos, negsuc, _+ℤ_, _-ℤ_, _*ℤ_}
 use lib.Signed.{mag, shrZ, _≤ℤ_, _<ℤ_}
@@ -89,3 +89,12 @@ floor-size (negsuc n) d = refl
 
 pub floor-range : (x : ℤ) (j d : ℕ) → mag x < 2 ^ (j + d) → mag (floorBy x d) < 2 ^ j
 floor-range x j d h = rw (floor-size x d) (shr-lt j d h)
+
+-- ---- widening on the right and back: the floor drops what was put in
+pub floor-widened : (a : ℤ) (r d : ℕ) → r ≤ 1 → floorBy (a *ℤ pos (2 ^ d) +ℤ pos (r * (2 ^ d - 1))) d ≡ a
+floor-widened a r d h =
+    let x = a *ℤ pos (2 ^ d) in
+    let p = pos (r * (2 ^ d - 1)) in
+    let scaled = times-law a (pos (2 ^ d)) in
+    let sum = plus-law x p in
+    sym (floor-only (x +ℤ p) a d (omega arith) (omega (arith, pow-pos d, mul-le-mul-right {m = r} {n = 1} (2 ^ d - 1) h)))

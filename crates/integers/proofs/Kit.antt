@@ -174,6 +174,14 @@ pub abs-law : (z : ℤ) → natAbs z ≡ up z + down z
 abs-law (pos n) = omega arith
 abs-law (negsuc n) = omega arith
 
+-- ---- how far apart two naturals are, which is the distance from 0 of their difference
+abbrev pub apart : ℕ → ℕ → ℕ
+apart x y = (x - y) + (y - x)
+
+pub abs-apart : (z : ℤ) (x y : ℕ) → up z + y ≡ x + down z → natAbs z ≡ apart x y
+abs-apart (pos n) x y h = omega arith
+abs-apart (negsuc n) x y h = omega arith
+
 -- ---- machine ranges, as rules
 pub machine-rule : {w : Width} {z : ℤ} → SFits w z → max (up z + 1) (down z) ≤ 2 ^ hbits w
 machine-rule {w} {z} f = size-range (2 ^ hbits w) z (f .sfits)

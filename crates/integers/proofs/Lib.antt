@@ -1,6 +1,7 @@
 pub mod Kit
 pub mod Floor
 pub mod Digits
+pub mod Even
 pub mod Width
 pub mod Machine
 pub mod Lists

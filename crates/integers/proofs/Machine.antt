@@ -15,10 +15,10 @@ use mir.Syntax.{Width, w64}
 use mir.Val.{Fits, SFits, bits, toZ, ofZ}
 use mir.Facts.{toZ-ofZ, toZ-pos, toZ-neg}
 use borrow.Author.Tests.{eq-eqb, ne-eqb, ltb-true, ltb-false}
-use Rattle.integers.specs.Numbers.{fitsWidth, turned, floorBy, lowest, digit, digitsBelow, lowDigits}
-use Rattle.integers.proofs.Kit.{up, down, ints, plus-law, minus-law, neg-law, times-law}
-use Rattle.integers.proofs.Floor.{floor-size, turned-pos, turned-negsuc}
-use Rattle.integers.proofs.Digits.{lowest-le, digit-le, digit-law, below-law, below-more, below-range, low-range, floor-low-digits}
+use Rattle.integers.specs.Numbers.{fitsWidth, turned, cleared, floorBy, lowest, digit, digitsBelow, lowDigits}
+use Rattle.integers.proofs.Kit.{up, down, ints, size-range, by-machine, plus-law, minus-law, neg-law, times-law}
+use Rattle.integers.proofs.Floor.{floor-size, floor-range, turned-pos, turned-negsuc}
+use Rattle.integers.proofs.Digits.{lowest-le, cleared-is, digit-le, digit-law, below-law, below-more, below-range, low-range, floor-low-digits}
 use Rattle.integers.proofs.Width.{fits-is}
 
 -- ---- `x >> d`
@@ -127,6 +127,13 @@ times-machine {x = negsuc n} d f g =
 
     small : suc n * 2 ^ d ≤ 2 ^ 63
     small = omega (ints, g, neg-law (pos (suc n * 2 ^ d)))
+
+-- `(x >> 1) << 1`: nothing leaves an i64, since its ends are even and odd
+pub cleared-machine : (x : ℤ) → SFits w64 x → SFits w64 (cleared x)
+cleared-machine x f = rw (cleared-is x) (twice x f)
+  where
+    twice : (x : ℤ) → SFits w64 x → SFits w64 (floorBy x 1 *ℤ pos 2)
+    twice x f = by-machine (omega (arith, times-law (floorBy x 1) (pos 2), size-range (2 ^ 62) (floorBy x 1) (floor-range x 62 1 (f .sfits))))
 
 -- ---- `(x << s) >> s` with d + s = 64: the low d digits
 -- the bits of x end in its digits below d

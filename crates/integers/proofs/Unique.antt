@@ -2,6 +2,7 @@
 use mathlib.Core.Path.{sym, _∙_}
 use Rattle.integers.proofs.OneOutcome.{OneResult}
 use Rattle.integers.proofs.floor_by.Reads as floor-by
+use Rattle.integers.proofs.cleared.Reads as cleared
 use Rattle.integers.proofs.digit.Reads as digit
 use Rattle.integers.proofs.low_digits.Reads as low-digits
 use Rattle.integers.proofs.fits_width.Reads as fits-width
@@ -10,6 +11,9 @@ use Rattle.integers.proofs.any_below.Reads as any-below
 
 floor-by-one : OneResult (floor-by.Post tt)
 floor-by-one a x y e f p q = p ∙ sym q
+
+cleared-one : OneResult (cleared.Post tt)
+cleared-one a x y e f p q = p ∙ sym q
 
 digit-one : OneResult (digit.Post tt)
 digit-one a x y e f p q = p ∙ sym q

@@ -30,6 +30,10 @@ unfoldable pub lowest : ℤ → ℕ
 lowest (pos a) = a % 2
 lowest (negsuc a) = 1 - (a % 2)
 
+-- x with its lowest digit cleared
+unfoldable pub cleared : ℤ → ℤ
+cleared x = x -ℤ pos (lowest x)
+
 -- digit i, the lowest being digit 0; past the highest it is the sign
 unfoldable pub digit : ℤ → ℕ → ℕ
 digit x i = lowest (floorBy x i)

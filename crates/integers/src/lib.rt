@@ -8,13 +8,20 @@
 ghost use mathlib.Core.Path.{_≡_};
 ghost use Prim.Native.Nat.{_-_};
 ghost use lib.IntN.{natAbs};
-ghost use Rattle.integers.specs.Numbers.{floorBy, digit, lowDigits, anyBelow, fitsWidth};
+ghost use Rattle.integers.specs.Numbers.{floorBy, cleared, digit, lowDigits, anyBelow, fitsWidth};
 
 // x / 2^d, rounded toward minus infinity.
 pub fn floor_by(x: i64, d: u64) -> i64
     ensures { λ r. ⌜ r ≡ floorBy x d ⌝ }
 {
     if d < 64 { x >> d } else { x >> 63 }
+}
+
+// x with its lowest digit cleared.
+pub fn cleared(x: i64) -> i64
+    ensures { λ r. ⌜ r ≡ cleared x ⌝ }
+{
+    (x >> 1) << 1
 }
 
 // Digit i of x; above the highest it is the sign.

@@ -1,5 +1,6 @@
 -- What is true of round-bit words, each fact once, at every width and depth. Values are in half units.
 pub mod Signs
+pub mod Cuts
 pub mod Added
 pub mod Sums
 pub mod Products

@@ -4,15 +4,15 @@ use native.Mathlib.Omega.{arith}
 use mathlib.Core.Path.{_≡_, refl}
 use mathlib.Core.Bool.{Bool, true, false}
 use lib.Dec.{ltb}
-use lib.IntN.{ℤ, pos, negℤ, _+ℤ_}
+use lib.IntN.{ℤ, pos, negℤ, _+ℤ_, _-ℤ_}
 use lib.Signed.{_≤ℤ_}
 use borrow.Author.Tests.{not-false, ltb-false, le-ltb}
 use Rattle.integers.specs.Numbers.{lies}
-use Rattle.integers.proofs.Kit.{ints, plus-law}
+use Rattle.integers.proofs.Kit.{ints, plus-law, minus-law}
 use Rattle.integers.proofs.Width.{lies-true, lies-low, lies-high}
 use Rattle.words.specs.Words.{badUnit}
 use Rattle.words.specs.Refusals.{refuseFor}
-use Rattle.words.specs.Formats.{format, narrower, narrowerCheck, answerCheck, formatAnswer}
+use Rattle.words.specs.Formats.{format, narrower, narrowerCheck, wider, answerCheck, formatAnswer}
 use Rattle.words.specs.declared.Cause.the-variants.{Depth, WidthPast, UnitPast}
 use Rattle.words.specs.declared.Outcome.{Outcome}
 use Rattle.words.specs.declared.Outcome.the-variants.{Done, Refused}
@@ -81,3 +81,36 @@ pub answer-format : (o : Outcome) (f : Format) → o ≡ Done → formatAnswer o
 unfolding formatAnswer
 answer-format Done f e = refl
 answer-format (Refused c) f e = absurd (refused-not-done e)
+
+-- ---- a cut's format: one depth after another is one depth, and widening goes back
+pub narrower-narrower : (f : Format) (a b : ℕ) → narrower (narrower f a) b ≡ narrower f (a + b)
+narrower-narrower f a b =
+    let u = f .unit in
+    let width : f .width - a - b ≡ f .width - (a + b) = omega arith in
+    let unit : u +ℤ pos a +ℤ pos b ≡ u +ℤ pos (a + b) = omega (ints, plus-law u (pos a), plus-law (u +ℤ pos a) (pos b), plus-law u (pos (a + b))) in
+    rw (width, unit)
+
+pub narrower-wider : (f : Format) (d : ℕ) → narrower (wider f d) d ≡ f
+narrower-wider f d =
+    let width : f .width + d - d ≡ f .width = omega arith in
+    let unit : f .unit -ℤ pos d +ℤ pos d ≡ f .unit = omega (ints, minus-law (f .unit) (pos d), plus-law (f .unit -ℤ pos d) (pos d)) in
+    rw (width, unit)
+
+pub narrower-none : (f : Format) → narrower f 0 ≡ f
+narrower-none f =
+    let width : f .width - 0 ≡ f .width = omega arith in
+    let unit : f .unit +ℤ pos 0 ≡ f .unit = omega (ints, plus-law (f .unit) (pos 0)) in
+    rw (width, unit)
+
+-- the check lets every depth through that leaves a right format, so a depth in two steps too
+pub narrower-passes : (f : Format) (d : ℕ) → RightFormat f → RightFormat (narrower f d) → narrowerCheck f d ≡ Done
+narrower-passes f d g h = narrower-done f d g (omega (arith, h .narrow)) (h .coarse)
+
+pub narrower-first : (f : Format) (a b : ℕ) → RightFormat f → narrowerCheck f (a + b) ≡ Done → narrowerCheck f a ≡ Done
+narrower-first f a b g e =
+    narrower-done f a g (omega (arith, digits-left f (a + b) e))
+    (omega (ints, narrower-right f (a + b) g e .coarse, plus-law (f .unit) (pos a), plus-law (f .unit) (pos (a + b))))
+
+pub narrower-then : (f : Format) (a b : ℕ) → RightFormat f → narrowerCheck f (a + b) ≡ Done → narrowerCheck (narrower f a) b ≡ Done
+narrower-then f a b g e =
+    narrower-passes (narrower f a) b (narrower-right f a g (narrower-first f a b g e)) (rw (narrower-narrower f a b) (narrower-right f (a + b) g e))

@@ -1,5 +1,5 @@
 -- What the definitions of specs/ say, for the proofs here and in the rooms above. Assumes nothing.
-use Prim.Native.Nat.{ℕ, zero, suc, _-_, _^_, _≤_, _<_}
+use Prim.Native.Nat.{ℕ, zero, suc, _+_, _-_, _*_, _^_, _≤_, _<_}
 use native.Mathlib.Nat.{lt-of-lt-of-le}
 use native.Mathlib.Omega.{arith}
 use mathlib.Core.Path.{_≡_, refl, sym, ap, _∙_}
@@ -7,7 +7,7 @@ use mathlib.Core.Bool.{Bool, true, false, not, _&&_, _||_}
 use lib.Dec.{T, leb, eqb, leb→le}
 use lib.ListN.{length, getD}
 use lib.Pow.{pow-mono, pow-pos}
-use lib.IntN.{ℤ, pos, negsuc, negℤ}
+use lib.IntN.{ℤ, pos, negsuc, negℤ, _+ℤ_, _*ℤ_}
 use lib.Signed.{mag, _≤ℤ_}
 use mir.Syntax.{w64}
 use mir.Val.{SFits}
@@ -15,10 +15,11 @@ use mir.Facts.{and-yes}
 use borrow.Author.Tests.{not-false, leb-true, le-leb, eqb-true}
 use Rattle.integers.specs.Numbers.{lies, fitsWidth}
 use Rattle.integers.specs.Lists.{firstBad, all}
-use Rattle.integers.proofs.Kit.{ints, neg-law}
+use Rattle.integers.proofs.Kit.{up, down, ints, plus-law, times-law}
 use Rattle.integers.proofs.Lists.{all-each}
 use Rattle.integers.proofs.Width.{lies-true, lies-low, lies-high, fits-size, by-fits, fits-machine}
-use Rattle.words.specs.Words.{badWidth, badUnit, outside, badRoundBit}
+use Rattle.words.specs.Words.{badWidth, badUnit, outside, badRoundBit, value}
+use Rattle.words.specs.Words.Kind.{plain, roundBit, halfUnit}
 use Rattle.words.specs.Refusals.{causeNumber, numberOf, inTable, causes, cause, refuseFor, refuse, _orElse_, formatCheck, wordCheck, after, blankFormat}
 use Rattle.words.specs.declared.Cause.{Cause}
 use Rattle.words.specs.declared.Cause.the-variants.{Width, Unit, Number, Mismatch, Depth, WidthPast, UnitPast, NumberPast, DigitText, Buffer, Mark, Form}
@@ -143,15 +144,43 @@ pub blank-right : wordCheck blankFormat (pos 0) 0 ≡ Done
 unfolding wordCheck formatCheck fitsWidth
 blank-right = refl
 
--- ---- the same of each kind of word
+-- ---- the same of each kind of word, both ways
 pub plain-right : (w : PlainWord) → plainCheck w ≡ Done → Right (w .format) (w .number .0) 0
 unfolding plainCheck
 plain-right w e = right (w .format) (w .number .0) 0 e
 
-pub round-bit-right : (w : RoundBitWord) → roundBitCheck w ≡ Done → Right (w .format) (w .number .0) (w .number .1)
+pub plain-passes : (w : PlainWord) → Right (w .format) (w .number .0) 0 → plainCheck w ≡ Done
+unfolding plainCheck
+plain-passes w g = word-right (w .format) (w .number .0) 0 g
+
+abbrev pub RightRoundBit : RoundBitWord → Type 0
+RightRoundBit w = Right (w .format) (w .number .0) (w .number .1)
+
+pub round-bit-right : (w : RoundBitWord) → roundBitCheck w ≡ Done → RightRoundBit w
 unfolding roundBitCheck
 round-bit-right w e = right (w .format) (w .number .0) (w .number .1) e
+
+pub round-bit-passes : (w : RoundBitWord) → RightRoundBit w → roundBitCheck w ≡ Done
+unfolding roundBitCheck
+round-bit-passes w g = word-right (w .format) (w .number .0) (w .number .1) g
 
 pub half-unit-right : (w : HalfUnitWord) → halfUnitCheck w ≡ Done → Right (w .format) (w .number .0) 0
 unfolding halfUnitCheck
 half-unit-right w e = right (w .format) (w .number .0) 0 e
+
+pub half-unit-passes : (w : HalfUnitWord) → Right (w .format) (w .number .0) 0 → halfUnitCheck w ≡ Done
+unfolding halfUnitCheck
+half-unit-passes w g = word-right (w .format) (w .number .0) 0 g
+
+-- ---- the values as `omega` is handed them
+pub plain-law : (x : ℤ) → up (value plain x 0) + 2 * down x ≡ 2 * up x + down (value plain x 0)
+unfolding value
+plain-law x = omega (arith, times-law (pos 2) x)
+
+pub round-bit-law : (a : ℤ) (r : ℕ) → up (value roundBit a r) + 2 * down a ≡ 2 * up a + 2 * r + down (value roundBit a r)
+unfolding value
+round-bit-law a r = omega (arith, times-law (pos 2) (a +ℤ pos r), plus-law a (pos r))
+
+pub half-unit-law : (w : ℤ) → up (value halfUnit w 0) + 2 * down w ≡ 2 * up w + 1 + down (value halfUnit w 0)
+unfolding value
+half-unit-law w = omega (arith, times-law (pos 2) w, plus-law (pos 2 *ℤ w) (pos 1))
