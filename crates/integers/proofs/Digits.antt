@@ -179,3 +179,10 @@ digit-widened a r k h =
     let y = pos 2 *ℤ a +ℤ pos r in
     let above : floorBy x k ≡ y = ap (λ (z : ℤ). floorBy z k) (widened-twice a r k) ∙ floor-widened y r k h in
     omega (arith, rw (above, floor-widened a r (suc k) h) at (digit-law x k), times-law (pos 2) a, plus-law (pos 2 *ℤ a) (pos r))
+
+-- ---- the lowest digit of what was cleared is 0, and the digits above it are kept
+pub lowest-cleared : (x : ℤ) → lowest (cleared x) ≡ 0
+lowest-cleared x = let z = cleared x in omega (arith, cleared-law x, lowest-law x, lowest-law z, lowest-le z)
+
+pub floor-cleared : (x : ℤ) → floorBy (cleared x) 1 ≡ floorBy x 1
+floor-cleared x = omega (ints, cleared-law x, lowest-law x, lowest-law (cleared x), lowest-cleared x)

@@ -3,6 +3,7 @@ pub mod Floor
 pub mod Digits
 pub mod Even
 pub mod Width
+pub mod Halves
 pub mod Machine
 pub mod Lists
 pub mod OneOutcome

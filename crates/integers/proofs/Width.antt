@@ -156,14 +156,11 @@ pub product-size : (x y r s i j : ℕ) → x < 2 ^ i → y < 2 ^ j → r ≤ 1 �
 product-size x y r s i j h k l m = rw (pow-add 2 i j) (cross x y r s (2 ^ i) (2 ^ j) h k l m)
 
 -- ---- products of any sign
-pub times-size : (x y : ℤ) (i j : ℕ) → mag x < 2 ^ i → mag y < 2 ^ j → (up (x *ℤ y) ≤ 2 ^ (i + j)) × (down (x *ℤ y) ≤ 2 ^ (i + j))
-times-size x y i j h k = rw (pow-add 2 i j) (go x y (2 ^ i) (2 ^ j) h k)
-  where
-    go : (x y : ℤ) (p q : ℕ) → mag x < p → mag y < q → (up (x *ℤ y) ≤ p * q) × (down (x *ℤ y) ≤ p * q)
-    go (pos a) (pos b) p q h k = omega (arith, mul-le-mul h k)
-    go (pos a) (negsuc b) p q h k = omega (arith, times-law (pos a) (negsuc b), mul-le-mul h k)
-    go (negsuc a) (pos b) p q h k = omega (arith, times-law (negsuc a) (pos b), mul-le-mul h k)
-    go (negsuc a) (negsuc b) p q h k = omega (arith, mul-le-mul h k)
+pub times-bound : (x y : ℤ) (p q : ℕ) → mag x < p → mag y < q → (up (x *ℤ y) ≤ p * q) × (down (x *ℤ y) ≤ p * q)
+times-bound (pos a) (pos b) p q h k = omega (arith, mul-le-mul h k)
+times-bound (pos a) (negsuc b) p q h k = omega (arith, times-law (pos a) (negsuc b), mul-le-mul h k)
+times-bound (negsuc a) (pos b) p q h k = omega (arith, times-law (negsuc a) (pos b), mul-le-mul h k)
+times-bound (negsuc a) (negsuc b) p q h k = omega (arith, mul-le-mul h k)
 
 -- ---- a factor on the left of a sum, and a sign on either factor
 pub times-plus : (a b c : ℤ) → a *ℤ (b +ℤ c) ≡ (a *ℤ b) +ℤ (a *ℤ c)

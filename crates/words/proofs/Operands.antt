@@ -1,5 +1,6 @@
 -- What the checks of two operands and the refusal 8 tell, and that a done answer passed its check, for every kind of word. Assumes nothing.
 use Prim.Native.Nat.{ℕ, _-_, _^_, _<_}
+use native.Mathlib.Omega.{arith}
 use mathlib.Core.Path.{_≡_, refl, sym, _∙_}
 use mathlib.Core.Bool.{Bool, true, false}
 use lib.Dec.{eqb}
@@ -10,12 +11,14 @@ use Rattle.integers.specs.Numbers.{eqZ}
 use Rattle.integers.proofs.Width.{eqZ-same, same-eqZ, fits-size, by-fits}
 use Rattle.words.specs.Words.{outside}
 use Rattle.words.specs.Refusals.{refuse, _orElse_, wordCheck, differ, after}
+use Rattle.words.specs.Formats.{wider, answerCheck}
 use Rattle.words.specs.declared.Cause.{Cause}
-use Rattle.words.specs.declared.Cause.the-variants.{NumberPast}
+use Rattle.words.specs.declared.Cause.the-variants.{Mismatch, NumberPast}
 use Rattle.words.specs.declared.Outcome.{Outcome}
 use Rattle.words.specs.declared.Outcome.the-variants.{Done, Refused}
 use Rattle.words.specs.declared.Format.{Format}
-use Rattle.words.proofs.Laws.{passed, both-passed, both-pass, refused-not-done, and-both, Right, right, word-right}
+use Rattle.words.proofs.Laws.{passed, both-passed, both-pass, refused-not-done, and-both, RightFormat, Right, right, word-right}
+use Rattle.words.proofs.Formats.{answer-right}
 
 -- ---- operands of one format, both ways
 pub same-format : (f g : Format) → differ f g ≡ false → f ≡ g
@@ -56,3 +59,24 @@ module _ {A : Type 0} (refused : Cause → A) (outcome : A → Outcome) (told : 
   done-fits o f x a e =
       let p = done-passed o (after refused (refuse 8 (outside f x)) a) e in
       (p, fit-passed f x (done-passed (refuse 8 (outside f x)) a (rw p at e)))
+
+  -- the outcome of an answer that is done after a check is the check's
+  pub outcome-kept : (o : Outcome) (a : A) → outcome a ≡ Done → outcome (after refused o a) ≡ o
+  outcome-kept Done a e = e
+  outcome-kept (Refused c) a e = told c
+
+-- ---- the check of two operands that must have one format, both ways
+pub operands-right : (f : Format) (x : ℤ) (r : ℕ) (g : Format) (y : ℤ) (s : ℕ) → (wordCheck f x r orElse wordCheck g y s orElse refuse 4 (differ f g)) ≡ Done → Right f x r × Right g y s × (f ≡ g)
+operands-right f x r g y s e =
+    let p = both-right f x r g y s (refuse 4 (differ f g)) e in
+    (p .0, p .1, same-format f g (passed Mismatch (differ f g) (p .2)))
+
+pub right-operands : {f : Format} {x : ℤ} {r : ℕ} {g : Format} {y : ℤ} {s : ℕ} → Right f x r → Right g y s → f ≡ g → (wordCheck f x r orElse wordCheck g y s orElse refuse 4 (differ f g)) ≡ Done
+right-operands {g = g} p q e = right-both p q (rw (e, format-same g))
+
+-- ---- one operand, and an answer with d digits more
+pub wider-right : (f : Format) (x : ℤ) (r d : ℕ) → (wordCheck f x r orElse answerCheck (wider f d)) ≡ Done → Right f x r × RightFormat (wider f d)
+wider-right f x r d e =
+    let p = both-passed (wordCheck f x r) (answerCheck (wider f d)) e in
+    let g = right f x r (p .0) in
+    (g, answer-right (wider f d) (omega (arith, g .format .narrow)) (p .1))

@@ -1,14 +1,15 @@
--- What stays right: a sign change, a floor, the low digits and a widening of a right number. Assumes nothing.
+-- What stays right: a sign change, a floor, the low digits, a widening and a doubling of a right number, and its lowest digit cleared. Assumes nothing.
 use Prim.Native.Nat.{ℕ, suc, _+_, _-_, _*_, _^_, _≤_}
 use native.Mathlib.Omega.{arith}
 use native.Mathlib.Nat.{lt-of-lt-of-le}
 use mathlib.Core.Path.{_≡_}
 use lib.Pow.{pow-mono}
 use lib.IntN.{ℤ, pos, _+ℤ_, _*ℤ_}
-use Rattle.integers.specs.Numbers.{turned, floorBy, lowDigits}
+use Rattle.integers.specs.Numbers.{turned, floorBy, cleared, lowDigits}
 use Rattle.integers.proofs.Floor.{turned-size, floor-range}
 use Rattle.integers.proofs.Digits.{low-range}
 use Rattle.integers.proofs.Width.{widen-size}
+use Rattle.integers.proofs.Halves.{cleared-size, doubled-size}
 use Rattle.words.specs.Formats.{narrower, narrowerCheck, wider}
 use Rattle.words.specs.declared.Outcome.the-variants.{Done}
 use Rattle.words.specs.declared.Format.{Format}
@@ -40,3 +41,12 @@ pub widened-right : {f : Format} {x : ℤ} {r : ℕ} (d : ℕ) → Right f x r �
 widened-right {f} {x} {r} d g h =
     let same : f .width - 1 + d ≡ f .width + d - 1 = omega (arith, g .format .narrow) in
     record { format = h; size = rw same at (widen-size x r (f .width - 1) d (g .size) (g .bit)); bit = g .bit }
+
+-- ---- the lowest digit cleared, in the same format; 2 x + s, in a format with one digit more
+pub cleared-right : {f : Format} {x : ℤ} {r : ℕ} → Right f x r → Right f (cleared x) r
+cleared-right {f} {x} g = record { format = g .format; size = cleared-size x (f .width) (g .format .narrow) (g .size); bit = g .bit }
+
+pub doubled-right : {f : Format} {x : ℤ} {r : ℕ} (s t : ℕ) → Right f x r → RightFormat (wider f 1) → s ≤ 1 → t ≤ 1 → Right (wider f 1) ((pos 2 *ℤ x) +ℤ pos s) t
+doubled-right {f} {x} s t g h k l =
+    let same : suc (f .width - 1) ≡ f .width + 1 - 1 = omega (arith, g .format .narrow) in
+    record { format = h; size = rw same at (doubled-size x s (f .width - 1) (g .size) k); bit = l }

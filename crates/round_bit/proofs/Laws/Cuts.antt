@@ -34,23 +34,23 @@ word-kept : {o : Outcome} (w : RoundBitWord) → o ≡ Done → ((o andThen roun
 unfolding cutAnswer evenCutAnswer
 word-kept w c = rw c (refl, refl, refl)
 
-sign-change-done : (w : RoundBitWord) → signChangeOf w .outcome ≡ Done → (roundBitCheck w ≡ Done) × (signChangeOf w .word ≡ signChangeWord w)
+pub sign-change-done : (w : RoundBitWord) → signChangeOf w .outcome ≡ Done → (roundBitCheck w ≡ Done) × (signChangeOf w .word ≡ signChangeWord w)
 unfolding signChangeOf
 sign-change-done w e = let c = sym (outcome-kept _ (signChangeWord w) .0) ∙ e in (c, word-kept (signChangeWord w) c .0)
 
-cut-done : (w : RoundBitWord) (d : ℕ) → cutOf w d .outcome ≡ Done → (cutCheck w d ≡ Done) × (cutOf w d .word ≡ cutWord w d)
+pub cut-done : (w : RoundBitWord) (d : ℕ) → cutOf w d .outcome ≡ Done → (cutCheck w d ≡ Done) × (cutOf w d .word ≡ cutWord w d)
 unfolding cutOf
 cut-done w d e = let c = sym (outcome-kept _ (cutWord w d) .1) ∙ e in (c, word-kept (cutWord w d) c .1)
 
-rest-done : (w : RoundBitWord) (d : ℕ) → restOf w d .outcome ≡ Done → (cutCheck w d ≡ Done) × (restOf w d .word ≡ restWord w d)
+pub rest-done : (w : RoundBitWord) (d : ℕ) → restOf w d .outcome ≡ Done → (cutCheck w d ≡ Done) × (restOf w d .word ≡ restWord w d)
 unfolding restOf
 rest-done w d e = let c = sym (outcome-kept _ (restWord w d) .0) ∙ e in (c, word-kept (restWord w d) c .0)
 
-even-cut-done : (w : RoundBitWord) (d : ℕ) → evenCutOf w d .outcome ≡ Done → (cutCheck w d ≡ Done) × (evenCutOf w d .word ≡ evenCutWord w d)
+pub even-cut-done : (w : RoundBitWord) (d : ℕ) → evenCutOf w d .outcome ≡ Done → (cutCheck w d ≡ Done) × (evenCutOf w d .word ≡ evenCutWord w d)
 unfolding evenCutOf
 even-cut-done w d e = let c = sym (outcome-kept _ (evenCutWord w d) .2) ∙ e in (c, word-kept (evenCutWord w d) c .2)
 
-widen-done : (w : RoundBitWord) (d : ℕ) → widenOf w d .outcome ≡ Done → (widenCheck w d ≡ Done) × (widenOf w d .word ≡ widenWord w d)
+pub widen-done : (w : RoundBitWord) (d : ℕ) → widenOf w d .outcome ≡ Done → (widenCheck w d ≡ Done) × (widenOf w d .word ≡ widenWord w d)
 unfolding widenOf
 widen-done w d e = let c = sym (outcome-kept _ (widenWord w d) .0) ∙ e in (c, word-kept (widenWord w d) c .0)
 
@@ -163,7 +163,7 @@ cut-none w e =
     rw (cut-passes w 0 g (narrower-passes (w .format) 0 (g .format) (rw (narrower-none (w .format)) (g .format))))
 
 -- a cut after a cut is one cut
-cut-format : (w : RoundBitWord) (d : ℕ) → cutWord w d .format ≡ narrower (w .format) d
+pub cut-format : (w : RoundBitWord) (d : ℕ) → cutWord w d .format ≡ narrower (w .format) d
 unfolding cutWord
 cut-format w zero = sym (narrower-none (w .format))
 cut-format w (suc k) = refl

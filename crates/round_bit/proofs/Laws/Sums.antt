@@ -79,6 +79,10 @@ module _ (x y z : RoundBitWord) (done : (sumCheck x y andThen roundBitFitted (su
       rw (answer-is-word, added-value (x .number) (z .number))
       (times-plus (pos 2) (x .number .0 +ℤ pos (x .number .1)) (z .number .0 +ℤ pos (z .number .1)))
 
+pub sum-done : (x y : RoundBitWord) → sumOf x y .outcome ≡ Done → sumOf x y ≡ roundBitDone (sumWord x y)
+unfolding sumOf
+sum-done x y e = answer-is-word x y y e
+
 -- ---- closed: the word of a done answer passes its own check
 pub sum-closed : (x y : RoundBitWord) → sumOf x y .outcome ≡ Done → roundBitCheck (sumOf x y .word) ≡ Done
 unfolding sumOf

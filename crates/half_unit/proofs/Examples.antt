@@ -1,0 +1,38 @@
+-- Document 01's own examples of half-unit words, computed from the definitions. The bench sheet's one table is a crate of its own.
+use Prim.Native.Nat.{ℕ}
+use mathlib.Core.Path.{_≡_, refl}
+use lib.IntN.{ℤ, pos}
+use Rattle.integers.specs.Numbers.{fitsWidth, floorBy, lowest, cleared, digit, anyBelow}
+use Rattle.words.specs.Refusals.{cause, formatCheck, wordCheck}
+use Rattle.words.specs.Formats.{format, narrowerCheck, answerCheck}
+use Rattle.words.specs.Plain.{plainWord, plainCheck}
+use Rattle.words.specs.HalfUnit.{halfUnitWord, halfUnitCheck, halfUnitRefused, halfUnitDone, halfUnitFitted}
+use Rattle.words.specs.declared.Outcome.the-variants.{Done}
+use Rattle.words.specs.declared.HalfUnitWord.{HalfUnitWord}
+use Rattle.half_unit.specs.Conversions.{fromPlainCheck, fromPlainUpWord, fromPlainUpOf, evenFloor, fromPlainEvenWord, fromPlainEvenOf}
+use Rattle.half_unit.specs.Sums.{sumCheck, sumUpWord, sumUpOf, sumEvenWord, sumEvenOf}
+use Rattle.half_unit.specs.Products.{multiplied, productCheck, productWord, productOf}
+
+-- a word of unit 0
+abbrev at : ℕ → ℤ → HalfUnitWord
+at n w = halfUnitWord w (format n (pos 0))
+
+-- P10: "plain 6, depth 1, to half-unit: up 3, even 2. Plain 7: 3 by both."
+conversions : (fromPlainUpOf (plainWord (pos 6) (format 5 (pos 0))) 1 ≡ halfUnitDone (halfUnitWord (pos 3) (format 4 (pos 1))))
+    × (fromPlainEvenOf (plainWord (pos 6) (format 5 (pos 0))) 1 ≡ halfUnitDone (halfUnitWord (pos 2) (format 4 (pos 1))))
+    × (fromPlainUpOf (plainWord (pos 7) (format 5 (pos 0))) 1 ≡ halfUnitDone (halfUnitWord (pos 3) (format 4 (pos 1))))
+    × (fromPlainEvenOf (plainWord (pos 7) (format 5 (pos 0))) 1 ≡ halfUnitDone (halfUnitWord (pos 3) (format 4 (pos 1))))
+unfolding fitsWidth floorBy lowest cleared digit anyBelow formatCheck wordCheck narrowerCheck plainCheck fromPlainCheck fromPlainUpWord fromPlainUpOf evenFloor fromPlainEvenWord fromPlainEvenOf
+conversions = (refl, refl, refl, refl)
+
+-- P11: "half-unit 5+3: up 9, even 8." P12: "half-unit 5 times 2 = 27."
+sums : (sumUpOf (at 5 (pos 5)) (at 5 (pos 3)) ≡ halfUnitDone (at 5 (pos 9)))
+    × (sumEvenOf (at 5 (pos 5)) (at 5 (pos 3)) ≡ halfUnitDone (at 5 (pos 8)))
+unfolding fitsWidth lowest cleared formatCheck wordCheck halfUnitCheck halfUnitFitted sumCheck sumUpWord sumUpOf sumEvenWord sumEvenOf
+sums = (refl, refl)
+
+products : (productOf (at 5 (pos 5)) (at 5 (pos 2)) .word .number .0 ≡ pos 27)
+    × (productOf (at 32 (pos 5)) (at 32 (pos 2)) ≡ halfUnitRefused (cause 6 tt))
+    × (productOf (at 32 (pos 5)) (at 31 (pos 2)) .outcome ≡ Done)
+unfolding fitsWidth floorBy formatCheck wordCheck answerCheck halfUnitCheck multiplied productCheck productWord productOf
+products = (refl, refl, refl)

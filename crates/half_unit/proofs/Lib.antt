@@ -1,0 +1,5 @@
+mod Examples
+pub mod Checks
+pub mod Laws
+mod Wrong
+mod Unique

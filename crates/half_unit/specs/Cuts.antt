@@ -1,0 +1,35 @@
+-- Document 01, "Half-unit words": sign change and cut.
+use Prim.Native.Nat.{ℕ}
+use lib.IntN.{ℤ}
+use Rattle.integers.specs.Numbers.{turned, floorBy}
+use Rattle.words.specs.Refusals.{_orElse_}
+use Rattle.words.specs.Formats.{narrower, narrowerCheck}
+use Rattle.words.specs.HalfUnit.{halfUnitWord, halfUnitCheck, halfUnitRefused, halfUnitDone, _andThen_}
+use Rattle.words.specs.declared.Outcome.{Outcome}
+use Rattle.words.specs.declared.Outcome.the-variants.{Done, Refused}
+use Rattle.words.specs.declared.HalfUnitWord.{HalfUnitWord}
+use Rattle.words.specs.declared.HalfUnitAnswer.{HalfUnitAnswer}
+use Rattle.half_unit.specs.declared.CutAnswer.{CutAnswer}
+
+-- "Sign change: -1-w."
+unfoldable pub signChangeWord : HalfUnitWord → HalfUnitWord
+signChangeWord w = halfUnitWord (turned (w .number .0)) (w .format)
+
+unfoldable pub signChangeOf : HalfUnitWord → HalfUnitAnswer
+signChangeOf w = halfUnitCheck w andThen halfUnitDone (signChangeWord w)
+
+-- "Cut by d: floor(w / 2^d), width n-d, unit e+d"
+unfoldable pub cutWord : HalfUnitWord → ℕ → HalfUnitWord
+cutWord w d = halfUnitWord (floorBy (w .number .0) d) (narrower (w .format) d)
+
+-- 1, 2, 3, then 5, then 7
+unfoldable pub cutCheck : HalfUnitWord → ℕ → Outcome
+cutCheck w d = halfUnitCheck w orElse narrowerCheck (w .format) d
+
+-- the answer of a cut: the word, or the refusal with the blank word
+unfoldable pub cutAnswer : Outcome → HalfUnitWord → CutAnswer
+cutAnswer Done w = record { outcome = Done; word = w }
+cutAnswer (Refused c) w = record { outcome = Refused c; word = halfUnitRefused c .word }
+
+unfoldable pub cutOf : HalfUnitWord → ℕ → CutAnswer
+cutOf w d = cutAnswer (cutCheck w d) (cutWord w d)

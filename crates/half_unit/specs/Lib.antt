@@ -1,0 +1,4 @@
+pub mod Cuts
+pub mod Conversions
+pub mod Sums
+pub mod Products

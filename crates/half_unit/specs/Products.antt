@@ -1,0 +1,29 @@
+-- Document 01, "Half-unit words": product.
+use Prim.Native.Nat.{ℕ, _+_}
+use lib.IntN.{ℤ, pos, _+ℤ_, _-ℤ_, _*ℤ_}
+use Rattle.integers.specs.Numbers.{floorBy}
+use Rattle.words.specs.Refusals.{_orElse_}
+use Rattle.words.specs.Formats.{format, answerCheck}
+use Rattle.words.specs.HalfUnit.{halfUnitWord, halfUnitCheck, halfUnitDone, _andThen_}
+use Rattle.words.specs.declared.Outcome.{Outcome}
+use Rattle.words.specs.declared.Format.{Format}
+use Rattle.words.specs.declared.HalfUnitWord.{HalfUnitWord}
+use Rattle.words.specs.declared.HalfUnitAnswer.{HalfUnitAnswer}
+
+-- "((2x+1)(2y+1) - 1) / 2": both factors are odd, so nothing is left over
+unfoldable pub multiplied : ℤ → ℤ → ℤ
+multiplied x y = floorBy ((((pos 2 *ℤ x) +ℤ pos 1) *ℤ ((pos 2 *ℤ y) +ℤ pos 1)) -ℤ pos 1) 1
+
+-- "width n+m, unit exponent the two added, less 1"
+abbrev pub productFormat : Format → Format → Format
+productFormat f g = format (f .width + g .width) ((f .unit +ℤ g .unit) -ℤ pos 1)
+
+unfoldable pub productWord : HalfUnitWord → HalfUnitWord → HalfUnitWord
+productWord x y = halfUnitWord (multiplied (x .number .0) (y .number .0)) (productFormat (x .format) (y .format))
+
+-- 1, 2, 3 of the first, 1, 2, 3 of the second, then 6, then 7
+unfoldable pub productCheck : HalfUnitWord → HalfUnitWord → Outcome
+productCheck x y = halfUnitCheck x orElse halfUnitCheck y orElse answerCheck (productFormat (x .format) (y .format))
+
+unfoldable pub productOf : HalfUnitWord → HalfUnitWord → HalfUnitAnswer
+productOf x y = productCheck x y andThen halfUnitDone (productWord x y)
