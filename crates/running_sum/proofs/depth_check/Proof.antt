@@ -1,0 +1,19 @@
+use Rattle.words.proofs.Laws.{passed}
+use Rattle.words.proofs.Formats.{answer-outcome}
+use mathlib.Core.Path.{_≡_, sym, _∙_}
+use Rattle.words.specs.declared.Cause.the-variants.{Depth}
+use Rattle.running_sum.proofs.Checks.{depth-some, depth-none}
+use borrow.Author.Needs.{needs}
+use Rattle.running_sum.proofs.depth_check.Statement.{statement}
+use Rattle.running_sum.proofs.depth_check.Tie as tie
+
+returns : tie.Need-returns
+returns c =
+    depth-none (c .before .before .before .before .args .f) (c .before .before .before .before .args .d) _ (sym (c .before .before .before .refuse .ensures) ∙ c .before .c .given .1)
+
+returns-2 : tie.Need-returns-2
+returns-2 c =
+    rw (c .narrower .ensures, answer-outcome) (sym (depth-some (c .before .before .before .before .args .f) (c .before .before .before .before .args .d) (passed Depth _ (sym (c .before .before .before .refuse .ensures) ∙ c .before .enum-told .given .1))))
+
+pub depth-check-spec : {M : Type 1} → statement M
+depth-check-spec = tie.close (tie.spec (λ c κs. search needs) (λ c. search needs) (λ c. search needs) (λ c κs. search needs) returns returns-2)
