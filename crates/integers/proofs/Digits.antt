@@ -2,15 +2,15 @@
 use mathlib.Core.Path.{_≡_, refl, sym, ap, _∙_}
 use Prim.Native.Nat.{ℕ, zero, suc, _+_, _*_, _-_, _/_, _%_, _^_, _<_, _≤_}
 use native.Mathlib.Omega.{arith}
-use native.Mathlib.Nat.{div-add-mod', mod-lt, mul-le-mul-right, pow-succ'}
+use native.Mathlib.Nat.{div-add-mod', mod-lt, mul-le-mul-right, pow-succ', zero-add, zero-div}
 use native.Mathlib.Numerals.{add-one}
 use lib.Bits.{bitOr}
 use lib.Pow.{pow-pos, suc-ones}
 use lib.IntN.{ℤ, pos, negsuc, _+ℤ_, _-ℤ_, _*ℤ_}
 use lib.Signed.{mag}
 use Rattle.integers.specs.Numbers.{floorBy, turned, lowest, cleared, digit, digitsBelow, anyBelow, lowDigits}
-use Rattle.integers.proofs.Kit.{up, down, ints, plus-law, minus-law, times-law, by-size}
-use Rattle.integers.proofs.Floor.{floor-low, floor-high, floor-floor, floor-none, floor-turned, floor-widened, turned-pos, turned-negsuc}
+use Rattle.integers.proofs.Kit.{up, down, ints, plus-law, minus-law, times-law, size-range, by-size}
+use Rattle.integers.proofs.Floor.{floor-low, floor-high, floor-floor, floor-none, floor-turned, floor-range, floor-widened, turned-pos, turned-negsuc}
 
 -- ---- a digit is 0 or 1, and is what a floor has over twice the next one
 pub lowest-law : (y : ℤ) → up y + 2 * down (floorBy y 1) ≡ lowest y + 2 * up (floorBy y 1) + down y
@@ -152,7 +152,7 @@ lowest-evened y =
     let z = y +ℤ pos (lowest y) in omega (arith, lowest-law y, lowest-law z, lowest-le z, plus-law y (pos (lowest y)))
 
 -- ---- widening by k + 1 is widening 2 a + r by k, so that digit k of the widened number is r
-widened-twice : (a : ℤ) (r k : ℕ) → a *ℤ pos (2 ^ suc k) +ℤ pos (r * (2 ^ suc k - 1)) ≡ (pos 2 *ℤ a +ℤ pos r) *ℤ pos (2 ^ k) +ℤ pos (r * (2 ^ k - 1))
+pub widened-twice : (a : ℤ) (r k : ℕ) → a *ℤ pos (2 ^ suc k) +ℤ pos (r * (2 ^ suc k - 1)) ≡ (pos 2 *ℤ a +ℤ pos r) *ℤ pos (2 ^ k) +ℤ pos (r * (2 ^ k - 1))
 widened-twice a r k = rw (pow-succ' 2 k, ← suc-ones k) (go (2 ^ k - 1))
   where
     go : (n : ℕ) → a *ℤ pos (2 * suc n) +ℤ pos (r * (2 * suc n - 1)) ≡ (pos 2 *ℤ a +ℤ pos r) *ℤ pos (suc n) +ℤ pos (r * (suc n - 1))
@@ -186,3 +186,38 @@ lowest-cleared x = let z = cleared x in omega (arith, cleared-law x, lowest-law 
 
 pub floor-cleared : (x : ℤ) → floorBy (cleared x) 1 ≡ floorBy x 1
 floor-cleared x = omega (ints, cleared-law x, lowest-law x, lowest-law (cleared x), lowest-cleared x)
+
+-- ---- a number that fits k + 1 digits is its digits below k + 1, with the highest of them counted against them at twice its weight
+pub fits-digits : (x : ℤ) (k : ℕ) → mag x < 2 ^ k → up x + digit x k * 2 ^ suc k ≡ digitsBelow x (suc k) + down x
+fits-digits x k h = omega (arith, below-law x (suc k), ap (λ (i : ℕ). i * 2 ^ suc k) none-up, ap (λ (i : ℕ). i * 2 ^ suc k) digit-down)
+  where
+    here : mag (floorBy x k) < 1
+    here = floor-range x 0 k (rw (zero-add k) h)
+
+    next : mag (floorBy x (suc k)) < 1
+    next = floor-range x 0 (suc k) (rw zero-add (omega (arith, pow-succ' 2 k)))
+
+    none-up : up (floorBy x (suc k)) ≡ 0
+    none-up = omega (arith, size-range 1 (floorBy x (suc k)) next)
+
+    digit-down : down (floorBy x (suc k)) ≡ digit x k
+    digit-down = omega (arith, digit-law x k, digit-le x k, none-up, size-range 1 (floorBy x k) here, size-range 1 (floorBy x (suc k)) next)
+
+-- ---- every digit of -1 is 1
+pub digit-minus-one : (i : ℕ) → digit (negsuc 0) i ≡ 1
+unfolding digit floorBy lowest
+digit-minus-one i = rw zero-div
+
+-- ---- what holds of the four pairs of bits holds of any two
+pub both-bits : (P : ℕ → ℕ → Type 0) → P 0 0 → P 0 1 → P 1 0 → P 1 1 → (c b : ℕ) → c ≤ 1 → b ≤ 1 → P c b
+both-bits P p q r s zero zero h k = p
+both-bits P p q r s zero (suc zero) h k = q
+both-bits P p q r s (suc zero) zero h k = r
+both-bits P p q r s (suc zero) (suc zero) h k = s
+both-bits P p q r s zero (suc (suc b)) h k = absurd (omega arith)
+both-bits P p q r s (suc zero) (suc (suc b)) h k = absurd (omega arith)
+both-bits P p q r s (suc (suc c)) b h k = absurd (omega arith)
+
+-- a bit above what is less than p is read off one way
+pub split-digit : (p x y : ℕ) → x < p → y < p → (d b : ℕ) → d ≤ 1 → b ≤ 1 → x + b * p ≡ d * p + y → d ≡ b
+split-digit p x y h k = both-bits (λ d b. x + b * p ≡ d * p + y → d ≡ b) (λ e. refl) (λ e. absurd (omega arith)) (λ e. absurd (omega arith)) (λ e. refl)

@@ -55,14 +55,14 @@ unfolding widenOf
 widen-done w d e = let c = sym (outcome-kept _ (widenWord w d) .0) ∙ e in (c, word-kept (widenWord w d) c .0)
 
 -- ---- what a done check tells, and what that of a cut asks
-cut-tells : (w : RoundBitWord) (d : ℕ) → cutCheck w d ≡ Done → RightRoundBit w × (narrowerCheck (w .format) d ≡ Done)
+pub cut-tells : (w : RoundBitWord) (d : ℕ) → cutCheck w d ≡ Done → RightRoundBit w × (narrowerCheck (w .format) d ≡ Done)
 cut-tells w d c = let t = cut-passed w d c in (round-bit-right w (t .0), t .1)
 
 cut-passes : (w : RoundBitWord) (d : ℕ) → RightRoundBit w → narrowerCheck (w .format) d ≡ Done → cutCheck w d ≡ Done
 unfolding cutCheck
 cut-passes w d g e = both-pass (round-bit-passes w g) e
 
-widen-tells : (w : RoundBitWord) (d : ℕ) → widenCheck w d ≡ Done → RightRoundBit w × RightFormat (wider (w .format) d)
+pub widen-tells : (w : RoundBitWord) (d : ℕ) → widenCheck w d ≡ Done → RightRoundBit w × RightFormat (wider (w .format) d)
 widen-tells w d c =
     let t = widen-passed w d c in
     let g = round-bit-right w (t .0) in
@@ -265,7 +265,7 @@ widen-value w d =
     let ones = ap (λ (i : ℕ). r * i) (suc-ones d) in
     omega (ints, round-bit-law (x +ℤ p) r, plus-law x p, times-law a (pos (2 ^ d)), times-law (roundBitValue w) (pos (2 ^ d)))
 
-widen-cut-word : (w : RoundBitWord) (d : ℕ) → w .number .1 ≤ 1 → cutWord (widenWord w d) d ≡ w
+pub widen-cut-word : (w : RoundBitWord) (d : ℕ) → w .number .1 ≤ 1 → cutWord (widenWord w d) d ≡ w
 unfolding cutWord widenWord
 widen-cut-word w zero h =
     let same : wider (w .format) 0 ≡ w .format = sym (narrower-none (wider (w .format) 0)) ∙ narrower-wider (w .format) 0 in

@@ -1,0 +1,5 @@
+-- What is true of digit texts, each fact once, at every width and depth.
+pub mod Steps
+pub mod Signs
+pub mod Texts
+pub mod Readings

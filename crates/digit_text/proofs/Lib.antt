@@ -1,0 +1,5 @@
+mod Examples
+pub mod Scan
+pub mod Laws
+mod Wrong
+mod Unique

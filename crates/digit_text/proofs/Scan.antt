@@ -1,0 +1,149 @@
+-- Facts about texts and their digits, for the functions and the laws: a digit's byte, what one byte more does to a text's value and to the
+-- sign before the next place, how large the value can be, and what a passed check tells. Assumes nothing.
+use Prim.Native.Nat.{ℕ, zero, suc, _+_, _*_, _-_, _^_, _≤_, _<_}
+use native.Mathlib.Nat.{not-suc-le-zero, le-of-suc-le-suc, lt-of-lt-of-le, mul-le-mul-right, pow-succ'}
+use native.Mathlib.Numerals.{add-one}
+use native.Mathlib.Omega.{arith}
+use mathlib.Core.Path.{_≡_, refl, ap, _∙_}
+use mathlib.Core.Bool.{Bool, true, false, not, cond, _&&_, _||_}
+use mathlib.Core.List.{List, [], _∷_, _++_}
+use lib.Dec.{eqb, ltb}
+use lib.IntN.{ℤ, pos, negsuc, natAbs, _+ℤ_, _-ℤ_, _*ℤ_}
+use lib.ListN.{length, getD, take, length-append}
+use lib.Pow.{pow-add, pow-mono}
+use lib.Seq.{take-suc}
+use borrow.Author.Tests.{ltb-false}
+use Rattle.integers.specs.Numbers.{digit}
+use Rattle.integers.proofs.Kit.{up, down, ints, plus-law, minus-law, times-law, abs-law, one-zero, plus-times, times-assoc}
+use Rattle.words.specs.Words.{badWidth, badUnit}
+use Rattle.words.specs.Refusals.{refuseFor, _orElse_, formatCheck}
+use Rattle.words.specs.Formats.{format}
+use Rattle.words.specs.RoundBit.{roundBitCheck}
+use Rattle.words.specs.declared.Cause.the-variants.{Width, Unit, DigitText, Buffer}
+use Rattle.words.specs.declared.Outcome.the-variants.{Done}
+use Rattle.words.specs.declared.RoundBit.{RoundBit}
+use Rattle.words.specs.declared.RoundBitWord.{RoundBitWord}
+use Rattle.words.proofs.Laws.{RightFormat, right-format, both-passed, both-pass, passed}
+use Rattle.digit_text.specs.Digits.{plus, none, minus, signedDigit, byteOf, digitOf, textValue, signBefore}
+use Rattle.digit_text.specs.Writing.{writeCheck}
+use Rattle.digit_text.specs.Reading.{strange, goodAt, faulty, readCheck, readRound}
+
+-- ---- a digit and its byte
+pub byte-none : (x y : ℕ) → x ≡ y → byteOf (pos x -ℤ pos y) ≡ none
+unfolding byteOf
+byte-none x y h = let e : pos x -ℤ pos y ≡ pos 0 = omega (ints, minus-law (pos x) (pos y)) in rw e
+
+pub byte-plus : (x y : ℕ) → y < x → byteOf (pos x -ℤ pos y) ≡ plus
+unfolding byteOf
+byte-plus x y h = let e : pos x -ℤ pos y ≡ pos (suc (x - y - 1)) = omega (ints, minus-law (pos x) (pos y)) in rw e
+
+pub byte-minus : (x y : ℕ) → x < y → byteOf (pos x -ℤ pos y) ≡ minus
+unfolding byteOf
+byte-minus x y h = let e : pos x -ℤ pos y ≡ negsuc (y - x - 1) = omega (ints, minus-law (pos x) (pos y)) in rw e
+
+pub signed-above : (n : RoundBit) (i : ℕ) → 0 < i → signedDigit n i ≡ pos (digit (n .0) (i - 1)) -ℤ pos (digit (n .0) i)
+unfolding signedDigit
+signed-above n zero h = absurd (not-suc-le-zero h)
+signed-above n (suc i) h = let e : suc i - 1 ≡ i = omega arith in rw e
+
+pub digit-range : (b : ℕ) → natAbs (digitOf b) ≤ 1
+unfolding digitOf
+digit-range b = go (eqb b plus) (eqb b minus)
+  where
+    go : (p m : Bool) → natAbs (cond p (pos 1) (cond m (negsuc 0) (pos 0))) ≤ 1
+    go true m = omega arith
+    go false true = omega arith
+    go false false = omega arith
+
+-- ---- inside a list it does not matter what stands past its end
+pub getD-any : {A : Type 0} (l : List A) (k : ℕ) (x y : A) → k < length l → getD l k x ≡ getD l k y
+getD-any [] k x y h = absurd (not-suc-le-zero h)
+getD-any (a ∷ l) zero x y h = refl
+getD-any (a ∷ l) (suc k) x y h = getD-any l k x y (le-of-suc-le-suc h)
+
+-- ---- what a text is worth: one text behind another
+pub value-append : (s t : List ℕ) → textValue (s ++ t) ≡ (textValue s *ℤ pos (2 ^ length t)) +ℤ textValue t
+unfolding textValue
+value-append [] t = omega (ints, times-law (pos 0) (pos (2 ^ length t)), plus-law (pos 0 *ℤ pos (2 ^ length t)) (textValue t))
+value-append (b ∷ s) t =
+    let d = digitOf b in
+    let p = pos (2 ^ length s) in
+    let q = pos (2 ^ length t) in
+    let e : pos (2 ^ length (s ++ t)) ≡ p *ℤ q = rw (length-append s t) (ap pos (pow-add 2 (length s) (length t))) in
+    rw (e, value-append s t, plus-times (d *ℤ p) (textValue s) q, times-assoc d p q)
+    (omega (
+      ints,
+      plus-law (d *ℤ (p *ℤ q)) ((textValue s *ℤ q) +ℤ textValue t),
+      plus-law (textValue s *ℤ q) (textValue t),
+      plus-law ((d *ℤ (p *ℤ q)) +ℤ (textValue s *ℤ q)) (textValue t),
+      plus-law (d *ℤ (p *ℤ q)) (textValue s *ℤ q),
+    ))
+
+last-byte : (v : ℤ) (b : ℕ) → (v *ℤ pos (2 ^ 1)) +ℤ textValue (b ∷ []) ≡ (pos 2 *ℤ v) +ℤ digitOf b
+unfolding textValue
+last-byte v b =
+    let d = digitOf b in
+    omega (
+      ints,
+      times-law v (pos 2),
+      times-law (pos 2) v,
+      times-law d (pos 1),
+      plus-law (d *ℤ pos 1) (pos 0),
+      plus-law (v *ℤ pos 2) ((d *ℤ pos 1) +ℤ pos 0),
+      plus-law (pos 2 *ℤ v) d,
+    )
+
+-- one byte more
+pub value-next : (t : List ℕ) (k : ℕ) → k < length t → textValue (take (k + 1) t) ≡ (pos 2 *ℤ textValue (take k t)) +ℤ digitOf (getD t k 0)
+value-next t k h = rw (add-one, take-suc t k 0) (value-append (take k t) (getD t k 0 ∷ []) ∙ last-byte (textValue (take k t)) (getD t k 0))
+
+one-more : (d v : ℤ) (p : ℕ) → natAbs d ≤ 1 → natAbs v < p → natAbs ((d *ℤ pos p) +ℤ v) + 1 ≤ 2 * p
+one-more d v p h l =
+    let z = (d *ℤ pos p) +ℤ v in
+    let one : up d + down d ≤ 1 = omega (arith, abs-law d) in
+    omega (arith, abs-law z, one-zero z, plus-law (d *ℤ pos p) v, abs-law v, times-law d (pos p), mul-le-mul-right p one)
+
+-- k bytes are worth less than 2 ^ k, either way
+pub value-range : (t : List ℕ) → natAbs (textValue t) < 2 ^ length t
+unfolding textValue
+value-range [] = omega arith
+value-range (b ∷ t) = omega (arith, pow-succ' 2 (length t), one-more (digitOf b) (textValue t) (2 ^ length t) (digit-range b) (value-range t))
+
+pub value-small : (t : List ℕ) (n : ℕ) → length t ≤ n → natAbs (textValue t) < 2 ^ n
+value-small t n h = lt-of-lt-of-le (value-range t) (pow-mono h)
+
+-- ---- the sign before the next place
+pub sign-next : (t : List ℕ) (k s r : ℕ) → k < length t → s ≡ signBefore t k → r ≡ cond (eqb (getD t k 0) none) s (getD t k 0) → r ≡ signBefore t (k + 1)
+unfolding signBefore
+sign-next t k s r h e g = g ∙ rw (e, add-one, getD-any t k none 0 h)
+
+pub round-le : (t : List ℕ) → readRound t ≤ 1
+unfolding readRound
+round-le t = go (eqb (signBefore t (length t)) plus)
+  where
+    go : (b : Bool) → cond b 1 0 ≤ 1
+    go true = omega arith
+    go false = omega arith
+
+-- ---- a byte is good where it is no fault after the sign before it
+abbrev pub fault : ℕ → ℕ → Bool
+fault b s = strange b || (not (eqb b none) && eqb b s)
+
+pub good-is : (t : List ℕ) (k s : ℕ) → k < length t → s ≡ signBefore t k → goodAt t k ≡ not (fault (getD t k 0) s)
+unfolding goodAt
+good-is t k s h e = rw (getD-any t k none 0 h, e)
+
+-- ---- what a passed check of a reading tells
+pub read-right : (t : List ℕ) (e : ℤ) → readCheck t e ≡ Done → RightFormat (format (length t) e) × (faulty t ≡ false)
+unfolding readCheck formatCheck
+read-right t e d =
+    let p = both-passed (refuseFor Width (badWidth (length t))) (refuseFor Unit (badUnit e) orElse refuseFor DigitText (faulty t)) d in
+    let q = both-passed (refuseFor Unit (badUnit e)) (refuseFor DigitText (faulty t)) (p .1) in
+    (right-format (format (length t) e) (both-pass (p .0) (q .0)), passed DigitText (faulty t) (q .1))
+
+-- and of a writing: there is room for the text
+pub write-room : (w : RoundBitWord) (room : ℕ) → writeCheck w room ≡ Done → w .format .width ≤ room
+unfolding writeCheck
+write-room w room d =
+    let short = ltb room (w .format .width) in
+    ltb-false room (w .format .width) (passed Buffer short (both-passed (roundBitCheck w) (refuseFor Buffer short) d .1))

@@ -1,0 +1,71 @@
+-- Wrong answers: rows of a writing or a reading and an answer that it must not give, each tried against the definition by one computed
+-- test. With the uniqueness of each contract this shuts them out of the code.
+use Prim.Native.Nat.{ℕ}
+use mathlib.Core.Bool.{Bool, true, false, not, _&&_}
+use mathlib.Core.List.{List, [], _∷_}
+use mathlib.Core.Path.{_≡_, refl}
+use lib.Dec.{eqb}
+use lib.IntN.{ℤ, pos, negsuc}
+use lib.ListN.{length, getD}
+use Rattle.integers.specs.Numbers.{fitsWidth, floorBy, lowest, digit}
+use Rattle.integers.specs.Lists.{firstBad, all, over}
+use Rattle.words.specs.Refusals.{numberOf, formatCheck, wordCheck}
+use Rattle.words.specs.Formats.{format}
+use Rattle.words.specs.RoundBit.{roundBitWord, roundBitCheck}
+use Rattle.words.specs.Flat.{Flat, flat, laidFlat, sameFlat}
+use Rattle.words.specs.declared.RoundBitWord.{RoundBitWord}
+use Rattle.digit_text.specs.Digits.{plus, none, minus, signedDigit, byteOf, digitOf, byteAt, textValue, signBefore}
+use Rattle.digit_text.specs.Writing.{writeCheck, writeAnswer, writeOf, writtenIf, bufferOf}
+use Rattle.digit_text.specs.Reading.{goodAt, firstFault, faulty, readCheck, readRound, readWord, readAnswer, readOf}
+
+-- of a writing: the number of its outcome, the count and the whole buffer; of a reading: outcome and word
+data Row : Type 0 where
+  write : RoundBitWord → List ℕ → ℕ → ℕ → List ℕ → Row
+  read : List ℕ → ℤ → Flat → Row
+
+abbrev sameBytes : List ℕ → List ℕ → Bool
+sameBytes [] [] = true
+sameBytes [] (b ∷ bs) = false
+sameBytes (a ∷ as') [] = false
+sameBytes (a ∷ as') (b ∷ bs) = eqb a b && sameBytes as' bs
+
+abbrev differs : Row → Bool
+differs (write w buffer o n after) =
+    let a = writeOf w (length buffer) in
+    not (eqb (numberOf (a .outcome)) o && eqb (a .count) n && sameBytes (bufferOf w buffer) after)
+differs (read t e x) =
+    let a = readOf t e in
+    not (sameFlat (laidFlat (a .outcome) (a .word .number .0) (a .word .number .1) (a .word .format)) x)
+
+abbrev at : ℕ → ℤ → ℕ → RoundBitWord
+at n a r = roundBitWord a r (format n (pos 0))
+
+abbrev done : ℕ → ℤ → ℕ → Flat
+done n a r = flat 0 a r n (pos 0)
+
+abbrev refused : ℕ → Flat
+refused o = flat o (pos 0) 0 2 (pos 0)
+
+abbrev wrong : List Row
+wrong =
+    -- (2,0) of width 3 is `+-0` and (0,1) `00+`: least significant first; r taken for 0; one byte more; refuses always
+    write (at 3 (pos 2) 0) (9 ∷ 9 ∷ 9 ∷ 9 ∷ []) 0 3 (none ∷ minus ∷ plus ∷ 9 ∷ [])
+    ∷ write (at 3 (pos 0) 1) (9 ∷ 9 ∷ 9 ∷ 9 ∷ []) 0 3 (none ∷ none ∷ none ∷ 9 ∷ [])
+    ∷ write (at 3 (pos 2) 0) (9 ∷ 9 ∷ 9 ∷ 9 ∷ []) 0 3 (plus ∷ minus ∷ none ∷ none ∷ [])
+    ∷ write (at 3 (pos 2) 0) (9 ∷ 9 ∷ 9 ∷ 9 ∷ []) 10 0 (9 ∷ 9 ∷ 9 ∷ 9 ∷ [])
+    -- a refusal that writes what there is room for; one that answers a count
+    ∷ write (at 3 (pos 2) 0) (9 ∷ 9 ∷ []) 10 0 (plus ∷ minus ∷ [])
+    ∷ write (at 3 (pos 2) 0) (9 ∷ 9 ∷ []) 10 3 (9 ∷ 9 ∷ [])
+    -- a last `+` read with round bit 0; repeated signs let through over a zero; refuses always; a strange byte taken for 0
+    ∷ read (none ∷ plus ∷ []) (pos 0) (done 2 (pos 1) 0)
+    ∷ read (plus ∷ none ∷ plus ∷ []) (pos 0) (done 3 (pos 4) 1)
+    ∷ read (plus ∷ minus ∷ []) (pos 0) (refused 9)
+    ∷ read (plus ∷ 120 ∷ []) (pos 0) (done 2 (pos 1) 1)
+    -- all zeros as the other word that is nothing; 9 before 2
+    ∷ read (none ∷ none ∷ []) (pos 0) (done 2 (negsuc 0) 1)
+    ∷ read (plus ∷ plus ∷ []) (pos 128) (refused 9)
+    ∷ []
+
+all-wrong : all (length wrong) (λ k. differs (getD wrong k (read [] (pos 0) (refused 1)))) ≡ true
+unfolding firstBad fitsWidth floorBy lowest digit over formatCheck wordCheck roundBitCheck signedDigit byteOf digitOf byteAt textValue signBefore writeCheck writeAnswer writeOf writtenIf bufferOf goodAt firstFault faulty readCheck readRound readWord readAnswer readOf
+all-wrong = refl

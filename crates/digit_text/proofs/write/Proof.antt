@@ -1,0 +1,39 @@
+use mathlib.Core.Path.{_≡_, refl, sym, _∙_}
+use lib.ListN.{length}
+use Rattle.words.specs.declared.Outcome.the-variants.{Done}
+use Rattle.digit_text.specs.Writing.{writeCheck, writeAnswer, writeOf, writtenIf, bufferOf}
+use Rattle.digit_text.proofs.Scan.{write-room}
+use borrow.Author.Needs.{needs}
+use Rattle.digit_text.proofs.write.Statement.{statement}
+use Rattle.digit_text.proofs.write.Tie as tie
+
+passed : (c : tie.After-enum-told) → writeCheck (c .before .before .before .before .args .w) (length (c .before .before .before .before .args .text .now)) ≡ Done
+passed c = sym (c .before .before .write-check .ensures) ∙ c .enum-told .given .1
+
+put-text-requires : tie.Need-put-text-requires
+put-text-requires c κs = (refl, write-room _ _ (passed (c .before .before)))
+
+returns : tie.Need-returns
+unfolding writeAnswer writeOf writtenIf bufferOf
+returns c =
+    let b = c .before .before .before in
+    (rw (← b .write-check .ensures, c .before .c .given .1), rw (← b .write-check .ensures, c .before .c .given .1))
+
+returns-2 : tie.Need-returns-2
+unfolding writeAnswer writeOf writtenIf bufferOf
+returns-2 c =
+    let p = passed (c .before .before .before .before .before) in
+    (rw p, rw p (c .before .before .put-text .ensures))
+
+pub write-spec : {M : Type 1} → statement M
+write-spec =
+    tie.close
+    (tie.spec
+    (λ c κs. search needs)
+    (λ c. search needs)
+    (λ c. search needs)
+    (λ c. search needs)
+    put-text-requires
+    returns
+    (λ c. search needs)
+    returns-2)

@@ -1,0 +1,54 @@
+-- Document 01, "Digit text": reading back.
+use Prim.Native.Nat.{ℕ, zero, suc}
+use mathlib.Core.Bool.{Bool, not, cond, _&&_, _||_}
+use mathlib.Core.List.{List}
+use lib.Dec.{eqb, ltb}
+use lib.IntN.{ℤ, pos, _-ℤ_}
+use lib.ListN.{length, getD}
+use Rattle.integers.specs.Lists.{firstBad}
+use Rattle.words.specs.Words.{badWidth, badUnit}
+use Rattle.words.specs.Refusals.{refuse, _orElse_}
+use Rattle.words.specs.Formats.{format}
+use Rattle.words.specs.RoundBit.{roundBitWord, roundBitRefused}
+use Rattle.words.specs.declared.Outcome.{Outcome}
+use Rattle.words.specs.declared.Outcome.the-variants.{Done, Refused}
+use Rattle.words.specs.declared.RoundBitWord.{RoundBitWord}
+use Rattle.digit_text.specs.declared.ReadAnswer.{ReadAnswer}
+use Rattle.digit_text.specs.Digits.{plus, none, minus, textValue, signBefore}
+
+-- a byte "that is not `+`, `0` or `-`"
+abbrev pub strange : ℕ → Bool
+strange b = not (eqb b plus || eqb b none || eqb b minus)
+
+-- "two nonzero digits of one sign with nothing or only zeros between them": the later of them repeats the sign before it
+abbrev pub repeats : List ℕ → ℕ → Bool
+repeats t k = not (eqb (getD t k none) none) && eqb (getD t k none) (signBefore t k)
+
+unfoldable pub goodAt : List ℕ → ℕ → Bool
+goodAt t k = not (strange (getD t k none) || repeats t k)
+
+-- the place of the first fault from the start, or the length where there is none
+unfoldable pub firstFault : List ℕ → ℕ
+firstFault t = firstBad (length t) (goodAt t)
+
+unfoldable pub faulty : List ℕ → Bool
+faulty t = ltb (firstFault t) (length t)
+
+-- "its length is the width": 1 of the length, 2, then 9
+unfoldable pub readCheck : List ℕ → ℤ → Outcome
+readCheck t e = refuse 1 (badWidth (length t)) orElse refuse 2 (badUnit e) orElse refuse 9 (faulty t)
+
+-- "the answer is the word whose digit text it is": its value is a + r, and below its lowest nonzero digit all digits of a are r, so r is 1
+-- exactly where that digit is `+`. "All zeros reads as (0,0)"
+unfoldable pub readRound : List ℕ → ℕ
+readRound t = cond (eqb (signBefore t (length t)) plus) 1 0
+
+unfoldable pub readWord : List ℕ → ℤ → RoundBitWord
+readWord t e = roundBitWord (textValue t -ℤ pos (readRound t)) (readRound t) (format (length t) e)
+
+unfoldable pub readAnswer : Outcome → RoundBitWord → ReadAnswer
+readAnswer Done w = record { outcome = Done; word = w }
+readAnswer (Refused c) w = record { outcome = Refused c; word = roundBitRefused c .word }
+
+unfoldable pub readOf : List ℕ → ℤ → ReadAnswer
+readOf t e = readAnswer (readCheck t e) (readWord t e)
