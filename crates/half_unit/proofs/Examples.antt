@@ -1,7 +1,7 @@
--- Document 01's own examples of half-unit words, computed from the definitions. The bench sheet's one table is a crate of its own.
+-- Document 01's own examples of half-unit words, computed from the definitions.
 use Prim.Native.Nat.{ℕ}
 use mathlib.Core.Path.{_≡_, refl}
-use lib.IntN.{ℤ, pos}
+use lib.IntN.{ℤ, pos, negsuc}
 use Rattle.integers.specs.Numbers.{fitsWidth, floorBy, lowest, cleared, digit, anyBelow}
 use Rattle.words.specs.Refusals.{cause, formatCheck, wordCheck}
 use Rattle.words.specs.Formats.{format, narrowerCheck, answerCheck}
@@ -31,7 +31,7 @@ sums : (sumUpOf (at 5 (pos 5)) (at 5 (pos 3)) ≡ halfUnitDone (at 5 (pos 9)))
 unfolding fitsWidth lowest cleared formatCheck wordCheck halfUnitCheck halfUnitFitted sumCheck sumUpWord sumUpOf sumEvenWord sumEvenOf
 sums = (refl, refl)
 
-products : (productOf (at 5 (pos 5)) (at 5 (pos 2)) .word .number .0 ≡ pos 27)
+products : (productOf (at 5 (pos 5)) (at 5 (pos 2)) ≡ halfUnitDone (halfUnitWord (pos 27) (format 10 (negsuc 0))))
     × (productOf (at 32 (pos 5)) (at 32 (pos 2)) ≡ halfUnitRefused (cause 6 tt))
     × (productOf (at 32 (pos 5)) (at 31 (pos 2)) .outcome ≡ Done)
 unfolding fitsWidth floorBy formatCheck wordCheck answerCheck halfUnitCheck multiplied productCheck productWord productOf

@@ -1,4 +1,4 @@
--- Document 01's own examples of round-bit words, computed from the definitions. The bench sheet's one table is a crate of its own.
+-- Document 01's own examples of round-bit words, computed from the definitions.
 use Prim.Native.Nat.{ℕ, _^_}
 use mathlib.Core.Path.{_≡_, refl}
 use mathlib.Core.Bool.{true, false}
@@ -45,3 +45,9 @@ products : (productOf (at 5 (pos 11) 1) (at 5 (pos 9) 1) ≡ roundBitDone (at 9 
     × (toPlainOf (at 5 (pos 15) 1) ≡ plainRefused (cause 8 tt))
 unfolding fitsWidth formatCheck wordCheck answerCheck plainFitted roundBitCheck magnitudeProduct multiplied productCheck productWord productOf toPlainWord toPlainOf
 products = (refl, refl, refl, refl, refl)
+
+-- "-( (0,0)+(0,1) ) is (-1,0), but the sum of the sign-changed words is (-2,1)."
+sign-through-sum : (signChangeWord (sumWord (at 5 (pos 0) 0) (at 5 (pos 0) 1)) ≡ at 5 (negsuc 0) 0)
+    × (sumWord (signChangeWord (at 5 (pos 0) 0)) (signChangeWord (at 5 (pos 0) 1)) ≡ at 5 (negsuc 1) 1)
+unfolding signChangeWord sumWord
+sign-through-sum = (refl, refl)

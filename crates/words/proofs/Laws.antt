@@ -184,3 +184,11 @@ round-bit-law a r = omega (arith, times-law (pos 2) (a +ℤ pos r), plus-law a (
 pub half-unit-law : (w : ℤ) → up (value halfUnit w 0) + 2 * down w ≡ 2 * up w + 1 + down (value halfUnit w 0)
 unfolding value
 half-unit-law w = omega (arith, times-law (pos 2) w, plus-law (pos 2 *ℤ w) (pos 1))
+
+-- "The same digits mean three amounts": whatever the digits, as a plain word, as (x,1) and as a half-unit word
+pub three-amounts-differ : (x : ℤ) → (value plain x 0 ≡ value roundBit x 1 → ⊥) × (value plain x 0 ≡ value halfUnit x 0 → ⊥) × (value roundBit x 1 ≡ value halfUnit x 0 → ⊥)
+three-amounts-differ x = (
+  (λ e. omega (arith, plain-law x, round-bit-law x 1, ap up e, ap down e)),
+  (λ e. omega (arith, plain-law x, half-unit-law x, ap up e, ap down e)),
+  (λ e. omega (arith, round-bit-law x 1, half-unit-law x, ap up e, ap down e)),
+)
