@@ -8,7 +8,6 @@
 // A sum goes in by value and comes back by value. Every call takes any sum, also one that no opening
 // made, and a refused call leaves the sum as it was, digit for digit.
 ghost use mathlib.Core.Path.{_≡_};
-ghost use Rattle.words.specs.Refusals.{refuse, _orElse_, differ};
 ghost use Rattle.running_sum.specs.Steps.{depthCheck, openCheck, openAnswer, openOf, Call, put, handOut, empty, stepOf, sumCheck, putCheck, keeping, putAnswer, handOutAnswer, emptyAnswer};
 use words::Cause;
 use words::Format;
@@ -119,26 +118,15 @@ fn sum_check(s: RunningSum) -> Outcome
     }
 }
 
+// All that a put asks but the sum's own 8: the lowest of 4, 5 and 7 comes after both words' 1, 2, 3.
 fn put_check(s: RunningSum, w: RoundBitWord) -> Outcome
     ensures { λ r. ⌜ r ≡ putCheck s w ⌝ }
 {
-    match words::round_bit_check(s.kept) {
-        Outcome::Refused(c) => Outcome::Refused(c),
-        Outcome::Done => match words::round_bit_check(w) {
-            Outcome::Refused(c) => Outcome::Refused(c),
-            Outcome::Done => format_check(s, w.format),
-        },
-    }
-}
-
-// 4, then 5 and 7.
-fn format_check(s: RunningSum, f: Format) -> Outcome
-    ensures { λ r. ⌜ r ≡ (refuse 4 (differ (s .kept .format) f) orElse depthCheck (s .kept .format) (s .depth)) ⌝ }
-{
-    match words::refuse(Cause::Mismatch, words::differ(s.kept.format, f)) {
-        Outcome::Refused(c) => Outcome::Refused(c),
-        Outcome::Done => depth_check(s.kept.format, s.depth),
-    }
+    let kept = words::round_bit_check(s.kept);
+    let word = words::round_bit_check(w);
+    let format = words::refuse(Cause::Mismatch, words::differ(s.kept.format, w.format));
+    let depth = depth_check(s.kept.format, s.depth);
+    words::or_else(kept, words::or_else(word, words::or_else(format, depth)))
 }
 
 fn keeping(s: RunningSum, w: RoundBitWord) -> RunningSum
@@ -156,26 +144,19 @@ impl RunningSum {
     pub fn put(mut self, word: RoundBitWord) -> PutAnswer
         ensures { λ r. ⌜ r ≡ putAnswer (stepOf self (put word)) ⌝ }
     {
-        match put_check(self, word) {
+        let a = round_bit::sum(self.kept, word);
+        let fit = a.outcome;
+        let o = words::or_else(put_check(self, word), fit);
+        match o {
             Outcome::Refused(c) => PutAnswer {
                 outcome: Outcome::Refused(c),
                 sum: self,
             },
             Outcome::Done => {
-                let a = round_bit::sum(self.kept, word);
-                let o = a.outcome;
-                match o {
-                    Outcome::Refused(c) => PutAnswer {
-                        outcome: Outcome::Refused(c),
-                        sum: self,
-                    },
-                    Outcome::Done => {
-                        self = keeping(self, a.word);
-                        PutAnswer {
-                            outcome: Outcome::Done,
-                            sum: self,
-                        }
-                    }
+                self = keeping(self, a.word);
+                PutAnswer {
+                    outcome: Outcome::Done,
+                    sum: self,
                 }
             }
         }

@@ -3,6 +3,7 @@ use mathlib.Core.Path.{sym, _∙_}
 use Rattle.integers.proofs.OneOutcome.{OneResult}
 use Rattle.words.proofs.number_of.Reads as number-of
 use Rattle.words.proofs.refuse.Reads as refuse
+use Rattle.words.proofs.or_else.Reads as or-else
 use Rattle.words.proofs.differ.Reads as differ
 use Rattle.words.proofs.format_check.Reads as format-check
 use Rattle.words.proofs.formed.Reads as formed
@@ -26,6 +27,9 @@ number-of-one a x y e f p q = p ∙ sym q
 
 refuse-one : OneResult (refuse.Post tt)
 refuse-one a x y e f p q = p ∙ sym q
+
+or-else-one : OneResult (or-else.Post tt)
+or-else-one a x y e f p q = p ∙ sym q
 
 differ-one : OneResult (differ.Post tt)
 differ-one a x y e f p q = p ∙ sym q

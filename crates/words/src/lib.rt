@@ -10,7 +10,7 @@
 ghost use mathlib.Core.Path.{_≡_};
 ghost use Prim.Native.Nat.{_-_, _^_, _<_};
 ghost use Rattle.words.specs.Words.{badWidth, badUnit, outside, badRoundBit};
-ghost use Rattle.words.specs.Refusals.{numberOf, refuseFor, formatCheck, wordCheck, differ, refuse, blankFormat};
+ghost use Rattle.words.specs.Refusals.{numberOf, refuseFor, _orElse_, formatCheck, wordCheck, differ, refuse, blankFormat};
 ghost use Rattle.words.specs.Formats.{format, narrower, narrowerCheck, wider, answerCheck, formatAnswer};
 ghost use Rattle.words.specs.Plain.{plainCheck, plainRefused, plainDone, plainFitted};
 ghost use Rattle.words.specs.RoundBit.{roundBitCheck, roundBitRefused, roundBitDone, roundBitFitted};
@@ -118,6 +118,16 @@ pub fn refuse(c: Cause, test: bool) -> Outcome
         Outcome::Refused(c)
     } else {
         Outcome::Done
+    }
+}
+
+// The first refusal of the two, or done.
+pub fn or_else(a: Outcome, b: Outcome) -> Outcome
+    ensures { λ r. ⌜ r ≡ (a orElse b) ⌝ }
+{
+    match a {
+        Outcome::Refused(c) => Outcome::Refused(c),
+        Outcome::Done => b,
     }
 }
 

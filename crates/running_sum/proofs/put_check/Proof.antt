@@ -5,17 +5,20 @@ use Rattle.running_sum.proofs.put_check.Tie as tie
 
 returns : tie.Need-returns
 unfolding putCheck
-returns c = rw (← c .before .before .before .round-bit-check .ensures, c .before .c .given .1)
-
-returns-2 : tie.Need-returns-2
-unfolding putCheck
-returns-2 c =
-    rw (← c .before .before .before .before .before .before .round-bit-check .ensures, c .before .before .before .before .enum-told .given .1, ← c .before .before .before .round-bit-check2 .ensures, c .before .c2 .given .1)
-
-returns-3 : tie.Need-returns-3
-unfolding putCheck
-returns-3 c =
-    rw (← c .before .before .before .before .before .before .round-bit-check .ensures, c .before .before .before .before .enum-told .given .1, ← c .before .before .before .round-bit-check2 .ensures, c .before .enum-told2 .given .1, c .format-check .ensures)
+returns c =
+    let d = c .before .before .before in
+    rw (c .or-else3 .ensures, c .before .or-else2 .ensures, c .before .before .or-else .ensures, d .depth-check .ensures, d .before .refuse .ensures, d .before .before .differ .ensures, d .before .before .before .round-bit-check2 .ensures, d .before .before .before .before .round-bit-check .ensures)
 
 pub put-check-spec : {M : Type 1} → statement M
-put-check-spec = tie.close (tie.spec (λ c κs. search needs) (λ c. search needs) (λ c. search needs) (λ c κs. search needs) (λ c. search needs) (λ c. search needs) (λ c κs. search needs) returns returns-2 returns-3)
+put-check-spec =
+    tie.close
+    (tie.spec
+    (λ c κs. search needs)
+    (λ c κs. search needs)
+    (λ c κs. search needs)
+    (λ c κs. search needs)
+    (λ c κs. search needs)
+    (λ c κs. search needs)
+    (λ c κs. search needs)
+    (λ c κs. search needs)
+    returns)

@@ -5,17 +5,15 @@ use Rattle.running_sum.proofs.RunningSum.put.Tie as tie
 
 returns : tie.Need-returns
 unfolding stepOf stepped
-returns c = rw (← c .before .before .before .put-check .ensures, c .before .c .given .1)
+returns c =
+    let b = c .before .before .before in
+    rw (← b .before .before .sum .ensures, ← b .before .put-check .ensures, ← b .or-else .ensures, c .before .o .given .1)
 
 returns-2 : tie.Need-returns-2
 unfolding stepOf stepped
 returns-2 c =
-    rw (← c .before .before .before .before .before .before .put-check .ensures, c .before .before .before .before .enum-told .given .1, ← c .before .before .before .sum .ensures, c .before .o .given .1)
-
-returns-3 : tie.Need-returns-3
-unfolding stepOf stepped
-returns-3 c =
-    rw (← c .before .before .before .before .before .before .put-check .ensures, c .before .before .before .before .enum-told .given .1, ← c .before .before .before .sum .ensures, c .before .enum-told2 .given .1, c .keeping .ensures)
+    let b = c .before .before .before in
+    rw (← b .before .before .sum .ensures, ← b .before .put-check .ensures, ← b .or-else .ensures, c .before .enum-told .given .1, c .keeping .ensures)
 
 pub put-spec : {M : Type 1} → statement M
-put-spec = tie.close (tie.spec (λ c κs. search needs) (λ c. search needs) (λ c. search needs) (λ c κs. search needs) (λ c. search needs) (λ c. search needs) (λ c κs. search needs) returns returns-2 returns-3)
+put-spec = tie.close (tie.spec (λ c κs. search needs) (λ c κs. search needs) (λ c κs. search needs) (λ c. search needs) (λ c. search needs) (λ c κs. search needs) returns returns-2)
