@@ -21,6 +21,7 @@ use Rattle.running_sum.specs.declared.RunningSum.{RunningSum}
 use Rattle.running_sum.specs.Steps.{nothing, depthCheck, openCheck, openAnswer, openOf, Call, handOut, empty, sumCheck, stepOf}
 use Rattle.running_sum.specs.Totals.{Answered, takenIn, givenOut, accepted, handedOut}
 use Rattle.running_sum.specs.Runs.{answeredBy, answered, left}
+use Rattle.running_sum.specs.Demand3.{Demand3}
 use Rattle.running_sum.proofs.Conserved.{step-conserves, step-format, step-keeps, hand-out-small, empty-nothing, shut-step, shut}
 
 -- ---- any list of calls on any sum: what was kept and what went in is what came out and what is kept then
@@ -151,3 +152,13 @@ totals-equal n e d cs h =
     let s = opened n e d cs in
     totals n e d (cs ++ empty ∷ [])
     ∙ rw (left-more s cs empty, empty-nothing (left s cs) h, +ℤ-idr)
+
+-- Demand 3 holds
+pub demand-3 : (n : ℕ) (e : ℤ) (d : ℕ) (cs : List Call) → Demand3 n e d cs
+demand-3 n e d cs =
+    record {
+      nothing-lost = totals n e d cs;
+      small = kept-small n e d cs;
+      near = totals-near n e d cs;
+      equal = totals-equal n e d cs;
+    }

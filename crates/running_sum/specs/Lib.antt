@@ -1,3 +1,4 @@
 pub mod Steps
 pub mod Totals
 pub mod Runs
+pub mod Demand3

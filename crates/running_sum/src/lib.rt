@@ -2,8 +2,8 @@
 //
 // It keeps one round-bit word. A put adds to it; a hand-out cuts it to the coarse unit, and what the
 // cut dropped stays kept, its round bit too; emptying hands out all. So the words accepted are always
-// the words handed out plus what is kept, however long it runs: proofs/Demand3.antt, and of this code
-// proofs/Links.antt.
+// the words handed out plus what is kept, however long it runs: specs/Demand3.antt says it, and
+// `demand-3` in proofs/Demand3.antt and, of this code, proofs/Links.antt prove it.
 //
 // A sum goes in by value and comes back by value. Every call takes any sum, also one that no opening
 // made, and a refused call leaves the sum as it was, digit for digit.

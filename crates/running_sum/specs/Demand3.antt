@@ -1,0 +1,37 @@
+-- Demand 3, sentence by sentence, of the sum that an opening gave, done or refused, and of any calls on it. Values are in half units of
+-- the sum's unit, so half a coarse unit is 2 ^ depth.
+use Prim.Native.Nat.{ℕ, _^_, _≤_}
+use mathlib.Core.Path.{_≡_}
+use mathlib.Core.List.{List, [], _∷_, _++_}
+use lib.IntN.{ℤ, natAbs, _+ℤ_, _-ℤ_}
+use Rattle.words.specs.RoundBit.{roundBitValue}
+use Rattle.words.specs.declared.Outcome.the-variants.{Done}
+use Rattle.running_sum.specs.declared.RunningSum.{RunningSum}
+use Rattle.running_sum.specs.Steps.{openOf, Call, handOut, empty, stepOf}
+use Rattle.running_sum.specs.Totals.{accepted, handedOut}
+use Rattle.running_sum.specs.Runs.{answered, left}
+
+module _ (n : ℕ) (e : ℤ) (d : ℕ) where
+  abbrev pub opened : RunningSum
+  opened = openOf n e d .sum
+
+  abbrev pub unit : ℤ
+  unit = opened .kept .format .unit
+
+  abbrev pub totalIn : List Call → ℤ
+  totalIn cs = accepted unit (answered opened cs)
+
+  abbrev pub totalOut : List Call → ℤ
+  totalOut cs = handedOut unit (answered opened cs)
+
+  abbrev pub keptAfter : List Call → ℤ
+  keptAfter cs = roundBitValue (left opened cs .kept)
+
+  pub record Demand3 (cs : List Call) : Type 0 where
+    -- "words accepted = words handed out, each in its own unit, plus what is kept."
+    pub nothing-lost : totalIn cs ≡ totalOut cs +ℤ keptAfter cs
+    -- "Right after a hand-out the kept value is at most half a coarse unit": and so is the difference of the totals
+    pub small : stepOf (left opened cs) handOut .outcome ≡ Done → natAbs (keptAfter (cs ++ handOut ∷ [])) ≤ 2 ^ opened .depth
+    pub near : stepOf (left opened cs) handOut .outcome ≡ Done → natAbs (totalIn (cs ++ handOut ∷ []) -ℤ totalOut (cs ++ handOut ∷ [])) ≤ 2 ^ opened .depth
+    -- "Right after emptying the two totals are equal."
+    pub equal : stepOf (left opened cs) empty .outcome ≡ Done → totalIn (cs ++ empty ∷ []) ≡ totalOut (cs ++ empty ∷ [])
