@@ -8,26 +8,22 @@ use lib.Dec.{eqb}
 use lib.IntN.{ℤ, pos, negsuc}
 use lib.ListN.{length, getD}
 use Rattle.integers.specs.Numbers.{fitsWidth, floorBy, lowest, digit}
-use Rattle.integers.specs.Lists.{firstBad, all, over}
+use Rattle.integers.specs.Lists.{firstBad, all}
+use Rattle.integers.specs.Bytes.{sameBytes}
 use Rattle.words.specs.Refusals.{numberOf, formatCheck, wordCheck}
 use Rattle.words.specs.Formats.{format}
 use Rattle.words.specs.RoundBit.{roundBitWord, roundBitCheck}
+use Rattle.words.specs.Buffers.{lentAfter, writeAnswer}
 use Rattle.words.specs.Flat.{Flat, flat, laidFlat, sameFlat}
 use Rattle.words.specs.declared.RoundBitWord.{RoundBitWord}
-use Rattle.digit_text.specs.Digits.{plus, none, minus, signedDigit, byteOf, digitOf, byteAt, textValue, signBefore}
-use Rattle.digit_text.specs.Writing.{writeCheck, writeAnswer, writeOf, writtenIf, bufferOf}
+use Rattle.digit_text.specs.Digits.{plus, none, minus, signedDigit, byteOf, digitOf, byteAt, text, textValue, signBefore}
+use Rattle.digit_text.specs.Writing.{writeCheck, writeOf, bufferOf}
 use Rattle.digit_text.specs.Reading.{goodAt, firstFault, faulty, readCheck, readRound, readWord, readAnswer, readOf}
 
 -- of a writing: the number of its outcome, the count and the whole buffer; of a reading: outcome and word
 data Row : Type 0 where
   write : RoundBitWord → List ℕ → ℕ → ℕ → List ℕ → Row
   read : List ℕ → ℤ → Flat → Row
-
-abbrev sameBytes : List ℕ → List ℕ → Bool
-sameBytes [] [] = true
-sameBytes [] (b ∷ bs) = false
-sameBytes (a ∷ as') [] = false
-sameBytes (a ∷ as') (b ∷ bs) = eqb a b && sameBytes as' bs
 
 abbrev differs : Row → Bool
 differs (write w buffer o n after) =
@@ -67,5 +63,5 @@ wrong =
     ∷ []
 
 all-wrong : all (length wrong) (λ k. differs (getD wrong k (read [] (pos 0) (refused 1)))) ≡ true
-unfolding firstBad fitsWidth floorBy lowest digit over formatCheck wordCheck roundBitCheck signedDigit byteOf digitOf byteAt textValue signBefore writeCheck writeAnswer writeOf writtenIf bufferOf goodAt firstFault faulty readCheck readRound readWord readAnswer readOf
+unfolding firstBad fitsWidth floorBy lowest digit formatCheck wordCheck roundBitCheck signedDigit byteOf digitOf byteAt textValue signBefore writeAnswer lentAfter text writeCheck writeOf bufferOf goodAt firstFault faulty readCheck readRound readWord readAnswer readOf
 all-wrong = refl

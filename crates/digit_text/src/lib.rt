@@ -21,12 +21,7 @@ use words::Format;
 use words::Outcome;
 use words::RoundBit;
 use words::RoundBitWord;
-
-// The answer of a writing: the count of bytes written, 0 when refused.
-pub struct WriteAnswer {
-    pub outcome: Outcome,
-    pub count: usize,
-}
+use words::WriteAnswer;
 
 // The answer of a reading.
 pub struct ReadAnswer {

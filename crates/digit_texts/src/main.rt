@@ -3,11 +3,11 @@
 // Buffers begin as question marks, so that it shows which bytes were written. What it must print comes
 // from second/digit_texts.py, which was written from document 01 alone.
 use digit_text::ReadAnswer;
-use digit_text::WriteAnswer;
 use libc::STDOUT_FILENO;
 use words::Format;
 use words::RoundBit;
 use words::RoundBitWord;
+use words::WriteAnswer;
 
 const BYTES: [u8; 4] = [b'+', b'0', b'-', b'x'];
 

@@ -6,6 +6,8 @@ pub mod Width
 pub mod Halves
 pub mod Machine
 pub mod Lists
+pub mod Bytes
+pub mod Parts
 pub mod OneOutcome
 mod Unique
 mod Examples

@@ -10,7 +10,7 @@ use native.Mathlib.Omega.{arith}
 use lib.ListN.{length, set, getD, drop, length-append, length-drop, List·getD-append}
 use lib.Seq.{sets, sets-eq, getD-append-add, getD-drop}
 use borrow.Author.Tests.{eq-eqb, ne-eqb, eqb-true}
-use Rattle.integers.specs.Lists.{tab, over, flat, firstBad, all}
+use Rattle.integers.specs.Lists.{tab, over, atFront, flat, firstBad, all}
 
 -- ---- written over from the front
 module _ {A : Type 0} where
@@ -41,6 +41,10 @@ module _ {A : Type 0} where
   pub length-over : (n : ℕ) (f : ℕ → A) (d : List A) → n ≤ length d → length (over n f d) ≡ length d
   unfolding over
   length-over n f d h = simp (length-append, length-tab, length-drop) (omega arith)
+
+  pub over-front : (n : ℕ) (f : ℕ → A) (d : List A) → over n f d ≡ atFront (tab n f) d
+  unfolding over
+  over-front n f d = rw (length-tab n f)
 
   -- what then stands below n, and what from n on
   pub over-below : (n : ℕ) (f : ℕ → A) (d : List A) (k : ℕ) (z : A) → k < n → getD (over n f d) k z ≡ f k

@@ -12,7 +12,7 @@ use lib.Pow.{pow-pos, pow-add, pow-mono, shl-lt, shl-shr, shr-lt, high}
 use lib.IntN.{ℤ, pos, negsuc, negℤ, natAbs, _+ℤ_, _-ℤ_, _*ℤ_}
 use lib.Signed.{mag, mag-shr, nonNeg, shrZ, ltZ}
 use mir.Syntax.{Width, w64}
-use mir.Val.{Fits, SFits, bits, toZ, ofZ}
+use mir.Val.{Fits, SFits, bits, hbits, toZ, ofZ}
 use mir.Facts.{toZ-ofZ, toZ-pos, toZ-neg}
 use borrow.Author.Tests.{eq-eqb, ne-eqb, ltb-true, ltb-false}
 use Rattle.integers.specs.Numbers.{fitsWidth, turned, cleared, floorBy, lowest, digit, digitsBelow, lowDigits}
@@ -216,10 +216,10 @@ low-machine x (suc k) f h l =
     ∙ ap (λ (u : ℕ). shrZ (toZ w64 u) (2 ^ s)) (shifted-out (b .0) (digitsBelow x d) d s e (below-range x d) ∙ ap (λ (u : ℕ). u * 2 ^ s) (below-more x k))
     ∙ read-back (digit x k) (digitsBelow x k) k s (digit-le x k) (below-range x k) e
 
-pub low-fits : (x : ℤ) (d : ℕ) → d ≤ 64 → SFits w64 (lowDigits x d)
+pub low-fits : (w : Width) (x : ℤ) (d : ℕ) → d ≤ suc (hbits w) → SFits w (lowDigits x d)
 unfolding lowDigits
-low-fits x zero h = record { sfits = omega arith }
-low-fits x (suc k) h = record { sfits = lt-of-lt-of-le (low-range x k) (pow-mono {i = k} {j = 63} (omega arith)) }
+low-fits w x zero h = record { sfits = pow-pos (hbits w) }
+low-fits w x (suc k) h = record { sfits = lt-of-lt-of-le (low-range x k) (pow-mono {i = k} {j = hbits w} (omega arith)) }
 
 -- from 64 on they are x itself
 pub low-far : (x : ℤ) (d : ℕ) → SFits w64 x → 63 < d → lowDigits x d ≡ x

@@ -5,6 +5,7 @@ use Rattle.integers.proofs.floor_by.Reads as floor-by
 use Rattle.integers.proofs.cleared.Reads as cleared
 use Rattle.integers.proofs.digit.Reads as digit
 use Rattle.integers.proofs.low_digits.Reads as low-digits
+use Rattle.integers.proofs.low_byte.Reads as low-byte
 use Rattle.integers.proofs.fits_width.Reads as fits-width
 use Rattle.integers.proofs.absolute.Reads as absolute
 use Rattle.integers.proofs.any_below.Reads as any-below
@@ -20,6 +21,9 @@ digit-one a x y e f p q = p ∙ sym q
 
 low-digits-one : OneResult (low-digits.Post tt)
 low-digits-one a x y e f p q = p ∙ sym q
+
+low-byte-one : OneResult (low-byte.Post tt)
+low-byte-one a x y e f p q = p ∙ sym q
 
 fits-width-one : OneResult (fits-width.Post tt)
 fits-width-one a x y e f p q = p ∙ sym q

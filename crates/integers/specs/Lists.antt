@@ -3,7 +3,7 @@ use Prim.Native.Nat.{ℕ, zero, suc}
 use mathlib.Core.Bool.{Bool, cond}
 use mathlib.Core.List.{List, [], _∷_, _++_}
 use lib.Dec.{eqb}
-use lib.ListN.{drop}
+use lib.ListN.{length, drop}
 
 -- f 0, f 1, .. f (n - 1)
 abbrev pub tab : {A : Type 0} → ℕ → (ℕ → A) → List A
@@ -13,6 +13,10 @@ tab (suc n) f = f zero ∷ tab n (λ k. f (suc k))
 -- d, of n places at least, with f 0, .. f (n - 1) in its first n, and the rest as it was
 unfoldable pub over : {A : Type 0} → ℕ → (ℕ → A) → List A → List A
 over n f d = tab n f ++ drop n d
+
+-- d with xs in its first places, and the rest as it was
+abbrev pub atFront : {A : Type 0} → List A → List A → List A
+atFront xs d = xs ++ drop (length xs) d
 
 -- the parts f 0, f 1, .. f (n - 1), one behind the other
 abbrev pub flat : {A : Type 0} → ℕ → (ℕ → List A) → List A

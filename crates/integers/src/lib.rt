@@ -8,7 +8,7 @@
 ghost use mathlib.Core.Path.{_≡_};
 ghost use Prim.Native.Nat.{_-_};
 ghost use lib.IntN.{natAbs};
-ghost use Rattle.integers.specs.Numbers.{floorBy, cleared, digit, lowDigits, anyBelow, fitsWidth};
+ghost use Rattle.integers.specs.Numbers.{floorBy, cleared, digit, digitsBelow, lowDigits, anyBelow, fitsWidth};
 
 // x / 2^d, rounded toward minus infinity.
 pub fn floor_by(x: i64, d: u64) -> i64
@@ -50,6 +50,13 @@ pub fn any_below(x: i64, k: u64) -> u8
     ensures { λ r. ⌜ r ≡ anyBelow x k ⌝ }
 {
     if low_digits(x, k) == 0 { 0 } else { 1 }
+}
+
+// The low 8 digits of x, as a byte.
+pub fn low_byte(x: i64) -> u8
+    ensures { λ r. ⌜ r ≡ digitsBelow x 8 ⌝ }
+{
+    (x & 255) as u8
 }
 
 fn less_one(n: u32) -> u64

@@ -74,7 +74,7 @@ both-passed (Refused c) p e = absurd (refused-not-done e)
 pub both-pass : {o p : Outcome} → o ≡ Done → p ≡ Done → (o orElse p) ≡ Done
 both-pass e f = rw (e, f)
 
-or-false : (a b : Bool) → (a || b) ≡ false → (a ≡ false) × (b ≡ false)
+pub or-false : (a b : Bool) → (a || b) ≡ false → (a ≡ false) × (b ≡ false)
 or-false true b e = (e, let z : _≡_ {A = Bool} true false = e in cc)
 or-false false b e = (refl, e)
 

@@ -4,6 +4,8 @@ use Rattle.integers.proofs.OneOutcome.{OneResult}
 use Rattle.words.proofs.number_of.Reads as number-of
 use Rattle.words.proofs.refuse.Reads as refuse
 use Rattle.words.proofs.or_else.Reads as or-else
+use Rattle.words.proofs.bad_unit.Reads as bad-unit
+use Rattle.words.proofs.outside.Reads as outside
 use Rattle.words.proofs.differ.Reads as differ
 use Rattle.words.proofs.format_check.Reads as format-check
 use Rattle.words.proofs.formed.Reads as formed
@@ -30,6 +32,12 @@ refuse-one a x y e f p q = p ∙ sym q
 
 or-else-one : OneResult (or-else.Post tt)
 or-else-one a x y e f p q = p ∙ sym q
+
+bad-unit-one : OneResult (bad-unit.Post tt)
+bad-unit-one a x y e f p q = p ∙ sym q
+
+outside-one : OneResult (outside.Post tt)
+outside-one a x y e f p q = p ∙ sym q
 
 differ-one : OneResult (differ.Post tt)
 differ-one a x y e f p q = p ∙ sym q

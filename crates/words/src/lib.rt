@@ -81,6 +81,12 @@ pub struct HalfUnitAnswer {
     pub word: HalfUnitWord,
 }
 
+// The answer of a writing into a lent buffer: the count of bytes written, 0 when refused.
+pub struct WriteAnswer {
+    pub outcome: Outcome,
+    pub count: usize,
+}
+
 // The format of an answer, or a refusal with the blank one.
 pub struct FormatAnswer {
     pub outcome: Outcome,
@@ -137,13 +143,15 @@ fn bad_width(f: Format) -> bool
     !((2 <= f.width) & (f.width <= 63))
 }
 
-fn bad_unit(f: Format) -> bool
+// Is the unit exponent outside -127 to 127?
+pub fn bad_unit(f: Format) -> bool
     ensures { λ r. ⌜ r ≡ badUnit (f .unit) ⌝ }
 {
     !((-127 <= f.unit) & (f.unit <= 127))
 }
 
-fn outside(f: Format, x: i64) -> bool
+// Does a number lie outside the format's width?
+pub fn outside(f: Format, x: i64) -> bool
     ensures { λ r. ⌜ r ≡ outside f x ⌝ }
 {
     !integers::fits_width(x, f.width)

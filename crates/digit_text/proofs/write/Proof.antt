@@ -1,7 +1,10 @@
 use mathlib.Core.Path.{_≡_, refl, sym, _∙_}
 use lib.ListN.{length}
 use Rattle.words.specs.declared.Outcome.the-variants.{Done}
-use Rattle.digit_text.specs.Writing.{writeCheck, writeAnswer, writeOf, writtenIf, bufferOf}
+use Rattle.integers.proofs.Lists.{over-front}
+use Rattle.words.specs.Buffers.{lentAfter, writeAnswer}
+use Rattle.digit_text.specs.Digits.{text}
+use Rattle.digit_text.specs.Writing.{writeCheck, writeOf, bufferOf}
 use Rattle.digit_text.proofs.Scan.{write-room}
 use borrow.Author.Needs.{needs}
 use Rattle.digit_text.proofs.write.Statement.{statement}
@@ -14,16 +17,16 @@ put-text-requires : tie.Need-put-text-requires
 put-text-requires c κs = (refl, write-room _ _ (passed (c .before .before)))
 
 returns : tie.Need-returns
-unfolding writeAnswer writeOf writtenIf bufferOf
+unfolding writeAnswer writeOf lentAfter bufferOf
 returns c =
     let b = c .before .before .before in
     (rw (← b .write-check .ensures, c .before .c .given .1), rw (← b .write-check .ensures, c .before .c .given .1))
 
 returns-2 : tie.Need-returns-2
-unfolding writeAnswer writeOf writtenIf bufferOf
+unfolding writeAnswer writeOf lentAfter text bufferOf
 returns-2 c =
     let p = passed (c .before .before .before .before .before) in
-    (rw p, rw p (c .before .before .put-text .ensures))
+    (rw p, rw p (c .before .before .put-text .ensures ∙ over-front _ _ _))
 
 pub write-spec : {M : Type 1} → statement M
 write-spec =

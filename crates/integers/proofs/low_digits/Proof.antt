@@ -1,5 +1,6 @@
 use Prim.Native.Nat.{ℕ, _<_}
 use mathlib.Core.Path.{_≡_, _∙_, sym}
+use mir.Syntax.{w64}
 use mir.Facts.{toZ-ofZ}
 use native.Mathlib.Omega.{arith}
 use borrow.Author.Needs.{needs}
@@ -37,7 +38,7 @@ returns-3 c =
     let x = c .before .before .args .x in
     let d = c .before .before .args .d in
     let low = low-machine x d (c .before .before .fits .x) (some d (c .before .if1 .left)) (c .if2 .left) in
-    rw low (toZ-ofZ (low-fits x d (omega arith)))
+    rw low (toZ-ofZ (low-fits w64 x d (omega arith)))
   where
     some : (n : ℕ) → (n ≡ 0 → ⊥) → 0 < n
     some n h = omega arith

@@ -1,0 +1,17 @@
+-- What a lent buffer holds after a call, and the answer of a writing.
+use Prim.Native.Nat.{ℕ}
+use mathlib.Core.List.{List}
+use Rattle.integers.specs.Lists.{atFront}
+use Rattle.words.specs.declared.Outcome.{Outcome}
+use Rattle.words.specs.declared.Outcome.the-variants.{Done, Refused}
+use Rattle.words.specs.declared.WriteAnswer.{WriteAnswer}
+
+-- "Only the named places are written", the first ones; at a refusal "lent buffers .. stay as they were"
+unfoldable pub lentAfter : {A : Type 0} → Outcome → List A → List A → List A
+lentAfter Done new old = atFront new old
+lentAfter (Refused c) new old = old
+
+-- "Writing a digit text or a file answers the count of bytes written, 0 when refused."
+unfoldable pub writeAnswer : Outcome → ℕ → WriteAnswer
+writeAnswer Done n = record { outcome = Done; count = n }
+writeAnswer (Refused c) n = record { outcome = Refused c; count = 0 }
