@@ -38,10 +38,6 @@ fn print_signed(x: i64) {
     io::print_decimal(STDOUT_FILENO, integers::absolute(x));
 }
 
-fn print_unit(e: i32) {
-    print_signed(e as i64);
-}
-
 fn print_outcome(n: u32) {
     io::write_all(STDOUT_FILENO, b" ");
     io::print_decimal(STDOUT_FILENO, n as u64);
@@ -71,7 +67,7 @@ fn round_bit(x: i64, r: u8, f: Format) -> u32 {
 fn line(x: i64, f: Format) {
     io::print_decimal(STDOUT_FILENO, f.width as u64);
     io::write_all(STDOUT_FILENO, b" ");
-    print_unit(f.unit);
+    print_signed(integers::wide(f.unit));
     io::write_all(STDOUT_FILENO, b" ");
     print_signed(x);
     print_outcome(plain(x, f));

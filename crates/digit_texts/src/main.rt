@@ -28,10 +28,6 @@ fn print_signed(x: i64) {
     io::print_decimal(STDOUT_FILENO, integers::absolute(x));
 }
 
-fn print_unit(e: i32) {
-    print_signed(e as i64);
-}
-
 fn word(n: u32, a: i64, r: u8) -> RoundBitWord {
     RoundBitWord {
         number: RoundBit(a, r),
@@ -123,7 +119,7 @@ fn print_read(text: &[u8], a: ReadAnswer) {
     print_signed(w.number.0);
     print_count(w.number.1 as u64);
     print_count(w.format.width as u64);
-    print_unit(w.format.unit);
+    print_signed(integers::wide(w.format.unit));
     print_text(b"\n");
 }
 

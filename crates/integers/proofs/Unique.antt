@@ -9,6 +9,7 @@ use Rattle.integers.proofs.low_byte.Reads as low-byte
 use Rattle.integers.proofs.fits_width.Reads as fits-width
 use Rattle.integers.proofs.absolute.Reads as absolute
 use Rattle.integers.proofs.any_below.Reads as any-below
+use Rattle.integers.proofs.wide.Reads as wide
 
 floor-by-one : OneResult (floor-by.Post tt)
 floor-by-one a x y e f p q = p ∙ sym q
@@ -33,3 +34,6 @@ absolute-one a x y e f p q = p ∙ sym q
 
 any-below-one : OneResult (any-below.Post tt)
 any-below-one a x y e f p q = p ∙ sym q
+
+wide-one : OneResult (wide.Post tt)
+wide-one a x y e f p q = p ∙ sym q

@@ -79,3 +79,10 @@ pub fn absolute(x: i64) -> u64
 {
     if x < 0 { ((!x) as u64) + 1 } else { x as u64 }
 }
+
+// x in 64 bits.
+pub fn wide(x: i32) -> i64
+    ensures { λ r. ⌜ r ≡ x ⌝ }
+{
+    x as i64
+}
