@@ -11,10 +11,9 @@ use Rattle.integers.specs.Numbers.{fitsWidth, floorBy, lowest, digit}
 use Rattle.integers.specs.Lists.{firstBad, all}
 use Rattle.integers.specs.Bytes.{sameBytes}
 use Rattle.words.specs.Refusals.{numberOf, formatCheck, wordCheck}
-use Rattle.words.specs.Formats.{format}
-use Rattle.words.specs.RoundBit.{roundBitWord, roundBitCheck}
+use Rattle.words.specs.RoundBit.{roundBitCheck}
 use Rattle.words.specs.Buffers.{lentAfter, writeAnswer}
-use Rattle.words.specs.Flat.{Flat, flat, laidFlat, sameFlat}
+use Rattle.words.proofs.Flat.{Flat, laidFlat, sameFlat, roundBitAt as at, done, refused}
 use Rattle.words.specs.declared.RoundBitWord.{RoundBitWord}
 use Rattle.digit_text.specs.Digits.{plus, none, minus, signedDigit, byteOf, digitOf, byteAt, text, textValue, signBefore}
 use Rattle.digit_text.specs.Writing.{writeCheck, writeOf, bufferOf}
@@ -32,15 +31,6 @@ differs (write w buffer o n after) =
 differs (read t e x) =
     let a = readOf t e in
     not (sameFlat (laidFlat (a .outcome) (a .word .number .0) (a .word .number .1) (a .word .format)) x)
-
-abbrev at : ℕ → ℤ → ℕ → RoundBitWord
-at n a r = roundBitWord a r (format n (pos 0))
-
-abbrev done : ℕ → ℤ → ℕ → Flat
-done n a r = flat 0 a r n (pos 0)
-
-abbrev refused : ℕ → Flat
-refused o = flat o (pos 0) 0 2 (pos 0)
 
 abbrev wrong : List Row
 wrong =

@@ -1,27 +1,22 @@
 -- Document 01's own examples of half-unit words, computed from the definitions.
-use Prim.Native.Nat.{ℕ}
 use mathlib.Core.Path.{_≡_, refl}
-use lib.IntN.{ℤ, pos, negsuc}
+use lib.IntN.{pos, negsuc}
 use Rattle.integers.specs.Numbers.{fitsWidth, floorBy, lowest, cleared, digit, anyBelow}
 use Rattle.words.specs.Refusals.{cause, formatCheck, wordCheck}
 use Rattle.words.specs.Formats.{format, narrowerCheck, answerCheck}
-use Rattle.words.specs.Plain.{plainWord, plainCheck}
+use Rattle.words.specs.Plain.{plainCheck}
 use Rattle.words.specs.HalfUnit.{halfUnitWord, halfUnitCheck, halfUnitRefused, halfUnitDone, halfUnitFitted}
 use Rattle.words.specs.declared.Outcome.the-variants.{Done}
-use Rattle.words.specs.declared.HalfUnitWord.{HalfUnitWord}
+use Rattle.words.proofs.Flat.{plainAt, halfUnitAt as at}
 use Rattle.half_unit.specs.Conversions.{fromPlainCheck, fromPlainUpWord, fromPlainUpOf, evenFloor, fromPlainEvenWord, fromPlainEvenOf}
 use Rattle.half_unit.specs.Sums.{sumCheck, sumUpWord, sumUpOf, sumEvenWord, sumEvenOf}
 use Rattle.half_unit.specs.Products.{multiplied, productCheck, productWord, productOf}
 
--- a word of unit 0
-abbrev at : ℕ → ℤ → HalfUnitWord
-at n w = halfUnitWord w (format n (pos 0))
-
 -- P10: "plain 6, depth 1, to half-unit: up 3, even 2. Plain 7: 3 by both."
-conversions : (fromPlainUpOf (plainWord (pos 6) (format 5 (pos 0))) 1 ≡ halfUnitDone (halfUnitWord (pos 3) (format 4 (pos 1))))
-    × (fromPlainEvenOf (plainWord (pos 6) (format 5 (pos 0))) 1 ≡ halfUnitDone (halfUnitWord (pos 2) (format 4 (pos 1))))
-    × (fromPlainUpOf (plainWord (pos 7) (format 5 (pos 0))) 1 ≡ halfUnitDone (halfUnitWord (pos 3) (format 4 (pos 1))))
-    × (fromPlainEvenOf (plainWord (pos 7) (format 5 (pos 0))) 1 ≡ halfUnitDone (halfUnitWord (pos 3) (format 4 (pos 1))))
+conversions : (fromPlainUpOf (plainAt 5 (pos 6)) 1 ≡ halfUnitDone (halfUnitWord (pos 3) (format 4 (pos 1))))
+    × (fromPlainEvenOf (plainAt 5 (pos 6)) 1 ≡ halfUnitDone (halfUnitWord (pos 2) (format 4 (pos 1))))
+    × (fromPlainUpOf (plainAt 5 (pos 7)) 1 ≡ halfUnitDone (halfUnitWord (pos 3) (format 4 (pos 1))))
+    × (fromPlainEvenOf (plainAt 5 (pos 7)) 1 ≡ halfUnitDone (halfUnitWord (pos 3) (format 4 (pos 1))))
 unfolding fitsWidth floorBy lowest cleared digit anyBelow formatCheck wordCheck narrowerCheck plainCheck fromPlainCheck fromPlainUpWord fromPlainUpOf evenFloor fromPlainEvenWord fromPlainEvenOf
 conversions = (refl, refl, refl, refl)
 

@@ -4,16 +4,16 @@ use Prim.Native.Nat.{ℕ}
 use mathlib.Core.Bool.{Bool, true, not}
 use mathlib.Core.List.{List, [], _∷_}
 use mathlib.Core.Path.{_≡_, refl}
-use lib.IntN.{ℤ, pos, negsuc}
+use lib.IntN.{pos, negsuc}
 use lib.ListN.{length, getD}
 use Rattle.integers.specs.Numbers.{fitsWidth, floorBy, lowest, cleared, digit, anyBelow}
 use Rattle.integers.specs.Lists.{firstBad, all}
 use Rattle.words.specs.Refusals.{formatCheck, wordCheck}
-use Rattle.words.specs.Formats.{format, narrowerCheck, answerCheck}
-use Rattle.words.specs.Plain.{plainWord, plainCheck}
-use Rattle.words.specs.RoundBit.{roundBitWord, roundBitCheck}
-use Rattle.words.specs.HalfUnit.{halfUnitWord, halfUnitCheck, halfUnitFitted}
-use Rattle.words.specs.Flat.{Flat, flat, laidFlat, flatPlain, flatRoundBit, flatHalfUnit, sameFlat}
+use Rattle.words.specs.Formats.{narrowerCheck, answerCheck}
+use Rattle.words.specs.Plain.{plainCheck}
+use Rattle.words.specs.RoundBit.{roundBitCheck}
+use Rattle.words.specs.HalfUnit.{halfUnitCheck, halfUnitFitted}
+use Rattle.words.proofs.Flat.{Flat, flat, laidFlat, flatPlain, flatRoundBit, flatHalfUnit, sameFlat, plainAt, roundBitAt, halfUnitAt as at, done, refused}
 use Rattle.words.specs.declared.PlainWord.{PlainWord}
 use Rattle.words.specs.declared.RoundBitWord.{RoundBitWord}
 use Rattle.words.specs.declared.HalfUnitWord.{HalfUnitWord}
@@ -53,24 +53,11 @@ claimed (sumUp v w x) = x
 claimed (sumEven v w x) = x
 claimed (product v w x) = x
 
--- words of unit 0; a done answer of unit 0; the blank answer of a refusal
-abbrev at : ℕ → ℤ → HalfUnitWord
-at n w = halfUnitWord w (format n (pos 0))
-
-abbrev plainAt : ℕ → ℤ → PlainWord
-plainAt n x = plainWord x (format n (pos 0))
-
-abbrev done : ℕ → ℤ → Flat
-done n w = flat 0 w 0 n (pos 0)
-
-abbrev refused : ℕ → Flat
-refused o = flat o (pos 0) 0 2 (pos 0)
-
 abbrev wrong : List Row
 wrong =
     -- -w for -1-w; the input copied through
-    signChange (at 5 (pos 3)) (done 5 (negsuc 2))
-    ∷ signChange (at 5 (pos 3)) (done 5 (pos 3))
+    signChange (at 5 (pos 3)) (done 5 (negsuc 2) 0)
+    ∷ signChange (at 5 (pos 3)) (done 5 (pos 3) 0)
     -- division toward zero; refuses always
     ∷ cut (at 5 (negsuc 2)) 1 (flat 0 (negsuc 0) 0 4 (pos 1))
     ∷ cut (at 5 (pos 4)) 1 (refused 5)
@@ -80,7 +67,7 @@ wrong =
     -- the up rule; the digit cleared always; at depth 0 not cleared
     ∷ fromPlainEven (plainAt 5 (pos 6)) 1 (flat 0 (pos 3) 0 4 (pos 1))
     ∷ fromPlainEven (plainAt 5 (pos 7)) 1 (flat 0 (pos 2) 0 4 (pos 1))
-    ∷ fromPlainEven (plainAt 5 (pos 7)) 0 (done 5 (pos 7))
+    ∷ fromPlainEven (plainAt 5 (pos 7)) 0 (done 5 (pos 7) 0)
     -- the half forgotten; the old width
     ∷ toPlain (at 5 (pos 3)) (flat 0 (pos 6) 0 6 (negsuc 0))
     ∷ toPlain (at 5 (pos 3)) (flat 0 (pos 7) 0 5 (negsuc 0))
@@ -88,14 +75,14 @@ wrong =
     ∷ toRoundBit (at 5 (pos 3)) (flat 0 (pos 6) 1 6 (negsuc 0))
     ∷ toRoundBit (at 5 (pos 3)) (flat 0 (pos 7) 0 6 (pos 0))
     -- the round bit dropped; the value instead of the interval's middle
-    ∷ fromRoundBit (roundBitWord (pos 3) 1 (format 5 (pos 0))) (flat 0 (pos 6) 0 6 (negsuc 0))
-    ∷ fromRoundBit (roundBitWord (pos 3) 1 (format 5 (pos 0))) (flat 0 (pos 8) 0 6 (negsuc 0))
+    ∷ fromRoundBit (roundBitAt 5 (pos 3) 1) (flat 0 (pos 6) 0 6 (negsuc 0))
+    ∷ fromRoundBit (roundBitAt 5 (pos 3) 1) (flat 0 (pos 8) 0 6 (negsuc 0))
     -- the 1 forgotten; the fit tested before the 1 is added
-    ∷ sumUp (at 5 (pos 5)) (at 5 (pos 3)) (done 5 (pos 8))
+    ∷ sumUp (at 5 (pos 5)) (at 5 (pos 3)) (done 5 (pos 8) 0)
     ∷ sumUp (at 5 (negsuc 15)) (at 5 (negsuc 0)) (refused 8)
     -- the up rule; cleared when it is even already
-    ∷ sumEven (at 5 (pos 5)) (at 5 (pos 3)) (done 5 (pos 9))
-    ∷ sumEven (at 5 (pos 5)) (at 5 (pos 2)) (done 5 (pos 6))
+    ∷ sumEven (at 5 (pos 5)) (at 5 (pos 3)) (done 5 (pos 9) 0)
+    ∷ sumEven (at 5 (pos 5)) (at 5 (pos 2)) (done 5 (pos 6) 0)
     -- the lowest digit lost; a width of n + m - 1
     ∷ product (at 5 (pos 5)) (at 5 (pos 2)) (flat 0 (pos 26) 0 10 (negsuc 0))
     ∷ product (at 5 (pos 5)) (at 5 (pos 2)) (flat 0 (pos 27) 0 9 (negsuc 0))

@@ -1,24 +1,17 @@
 -- Document 01's own examples of round-bit words, computed from the definitions.
-use Prim.Native.Nat.{ℕ, _^_}
 use mathlib.Core.Path.{_≡_, refl}
-use mathlib.Core.Bool.{true, false}
-use lib.IntN.{ℤ, pos, negsuc}
+use lib.IntN.{pos, negsuc}
 use Rattle.integers.specs.Numbers.{fitsWidth, floorBy, lowest, digit, digitsBelow, anyBelow, lowDigits}
 use Rattle.words.specs.Refusals.{cause, formatCheck, wordCheck}
 use Rattle.words.specs.Formats.{format, narrowerCheck, answerCheck}
-use Rattle.words.specs.Plain.{plainWord, plainRefused, plainFitted}
+use Rattle.words.specs.Plain.{plainRefused, plainFitted}
 use Rattle.words.specs.RoundBit.{roundBitWord, roundBitCheck, roundBitRefused, roundBitDone, roundBitFitted}
-use Rattle.words.specs.declared.Outcome.{Outcome}
 use Rattle.words.specs.declared.Outcome.the-variants.{Done, Refused}
-use Rattle.words.specs.declared.RoundBitWord.{RoundBitWord}
+use Rattle.words.proofs.Flat.{roundBitAt as at}
 use Rattle.round_bit.specs.Cuts.{signChangeWord, cutCheck, cutWord, cutAnswer, cutOf, restWord, restOf, evenRoundBit, evenCutWord, evenCutAnswer, evenCutOf, widenCheck, widenWord, widenOf}
 use Rattle.round_bit.specs.Sums.{sumCheck, sumWord, sumOf, differenceOf}
 use Rattle.round_bit.specs.Products.{magnitudeProduct, multiplied, productCheck, productWord, productOf}
 use Rattle.round_bit.specs.Conversions.{toPlainWord, toPlainOf}
-
--- a word of unit 0
-abbrev at : ℕ → ℤ → ℕ → RoundBitWord
-at n a r = roundBitWord a r (format n (pos 0))
 
 sums : (sumOf (at 5 (pos 3) 1) (at 5 (pos 4) 1) ≡ roundBitDone (at 5 (pos 8) 1))
     × (sumOf (at 5 (pos 15) 0) (at 5 (pos 0) 1) ≡ roundBitDone (at 5 (pos 15) 1))

@@ -1,19 +1,18 @@
 -- Wrong answers: rows of an operation, its arguments and an answer that it must not give, each tried against the definition by one
 -- computed test. With the uniqueness of each contract this shuts them out of the code.
 use Prim.Native.Nat.{ℕ}
-use mathlib.Core.Bool.{Bool, not}
+use mathlib.Core.Bool.{Bool, true, not}
 use mathlib.Core.List.{List, [], _∷_}
 use mathlib.Core.Path.{_≡_, refl}
-use mathlib.Core.Bool.{true}
-use lib.IntN.{ℤ, pos, negsuc}
+use lib.IntN.{pos, negsuc}
 use lib.ListN.{length, getD}
 use Rattle.integers.specs.Numbers.{fitsWidth, floorBy, lowest, digit, digitsBelow, anyBelow, lowDigits}
 use Rattle.integers.specs.Lists.{firstBad, all}
 use Rattle.words.specs.Refusals.{formatCheck, wordCheck}
-use Rattle.words.specs.Formats.{format, narrowerCheck, answerCheck}
-use Rattle.words.specs.Plain.{plainWord, plainCheck, plainFitted}
-use Rattle.words.specs.RoundBit.{roundBitWord, roundBitCheck, roundBitFitted}
-use Rattle.words.specs.Flat.{Flat, flat, laidFlat, flatPlain, flatRoundBit, sameFlat}
+use Rattle.words.specs.Formats.{narrowerCheck, answerCheck}
+use Rattle.words.specs.Plain.{plainCheck, plainFitted}
+use Rattle.words.specs.RoundBit.{roundBitCheck, roundBitFitted}
+use Rattle.words.proofs.Flat.{Flat, flat, laidFlat, flatPlain, flatRoundBit, sameFlat, plainAt, roundBitAt as at, done, refused}
 use Rattle.words.specs.declared.PlainWord.{PlainWord}
 use Rattle.words.specs.declared.RoundBitWord.{RoundBitWord}
 use Rattle.round_bit.specs.Cuts.{signChangeWord, signChangeOf, cutCheck, cutWord, cutAnswer, cutOf, restWord, restOf, evenRoundBit, evenCutWord, evenCutAnswer, evenCutOf, widenCheck, widenWord, widenOf}
@@ -51,16 +50,6 @@ claimed (difference v w x) = x
 claimed (product v w x) = x
 claimed (fromPlain w x) = x
 
--- a word of unit 0; a done answer of unit 0; the blank answer of a refusal
-abbrev at : ℕ → ℤ → ℕ → RoundBitWord
-at n a r = roundBitWord a r (format n (pos 0))
-
-abbrev done : ℕ → ℤ → ℕ → Flat
-done n a r = flat 0 a r n (pos 0)
-
-abbrev refused : ℕ → Flat
-refused o = flat o (pos 0) 0 2 (pos 0)
-
 abbrev wrong : List Row
 wrong =
     -- refuses always; the input copied through
@@ -91,8 +80,8 @@ wrong =
     ∷ toPlain (at 5 (pos 3) 1) (done 5 (pos 3) 0)
     ∷ toPlain (at 5 (pos 15) 1) (done 5 (pos 16) 0)
     -- the round bit set; one fixed word
-    ∷ fromPlain (plainWord (pos 3) (format 5 (pos 0))) (done 5 (pos 3) 1)
-    ∷ fromPlain (plainWord (pos 3) (format 5 (pos 0))) (done 2 (pos 0) 0)
+    ∷ fromPlain (plainAt 5 (pos 3)) (done 5 (pos 3) 1)
+    ∷ fromPlain (plainAt 5 (pos 3)) (done 2 (pos 0) 0)
     ∷ []
 
 abbrev differs : Row → Bool

@@ -10,9 +10,9 @@ use lib.ListN.{length, getD}
 use Rattle.integers.specs.Numbers.{fitsWidth, floorBy, lowest, digit, digitsBelow, lowDigits}
 use Rattle.integers.specs.Lists.{firstBad, all}
 use Rattle.words.specs.Refusals.{formatCheck, wordCheck}
-use Rattle.words.specs.Formats.{format, narrowerCheck}
-use Rattle.words.specs.RoundBit.{roundBitWord, roundBitCheck, roundBitFitted}
-use Rattle.words.specs.Flat.{Flat, flat, laidFlat, sameFlat}
+use Rattle.words.specs.Formats.{narrowerCheck}
+use Rattle.words.specs.RoundBit.{roundBitCheck, roundBitFitted}
+use Rattle.words.proofs.Flat.{Flat, flat, laidFlat, sameFlat, roundBitAt, refused as noWord}
 use Rattle.words.specs.declared.Outcome.{Outcome}
 use Rattle.words.specs.declared.RoundBitWord.{RoundBitWord}
 use Rattle.round_bit.specs.Cuts.{cutCheck, cutWord, cutAnswer, cutOf, restWord, restOf}
@@ -48,16 +48,13 @@ claimed (call s c x) = x
 
 -- a word of width 8 and unit 0, a sum that keeps it at depth 2, and answers about such
 abbrev at : ℤ → ℕ → RoundBitWord
-at a r = roundBitWord a r (format 8 (pos 0))
+at a r = roundBitAt 8 a r
 
 abbrev keeps : ℤ → ℕ → RunningSum
 keeps a r = record { kept = at a r; depth = 2 }
 
 abbrev gives : Flat → ℤ → ℕ → Answer
 gives w a r = record { word = w; kept = flat 0 a r 8 (pos 0); depth = 2 }
-
-abbrev noWord : ℕ → Flat
-noWord o = flat o (pos 0) 0 2 (pos 0)
 
 abbrev coarse : ℤ → ℕ → Flat
 coarse a r = flat 0 a r 6 (pos 2)

@@ -2,5 +2,6 @@ pub mod Laws
 pub mod Formats
 pub mod Rights
 pub mod Operands
+pub mod Flat
 mod Unique
 mod Examples

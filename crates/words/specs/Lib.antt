@@ -5,4 +5,3 @@ pub mod Buffers
 pub mod Plain
 pub mod RoundBit
 pub mod HalfUnit
-pub mod Flat
