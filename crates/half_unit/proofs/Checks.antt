@@ -17,29 +17,23 @@ use Rattle.half_unit.specs.Sums.{sumCheck}
 use Rattle.half_unit.specs.Products.{productFormat, productCheck}
 
 pub cut-passed : (w : HalfUnitWord) (d : ℕ) → cutCheck w d ≡ Done → (halfUnitCheck w ≡ Done) × (narrowerCheck (w .format) d ≡ Done)
-unfolding cutCheck
 cut-passed w d e = both-passed (halfUnitCheck w) (narrowerCheck (w .format) d) e
 
 pub from-plain-passed : (w : PlainWord) (d : ℕ) → fromPlainCheck w d ≡ Done → (plainCheck w ≡ Done) × (narrowerCheck (w .format) d ≡ Done)
-unfolding fromPlainCheck
 from-plain-passed w d e = both-passed (plainCheck w) (narrowerCheck (w .format) d) e
 
 pub to-plain-passed : (w : HalfUnitWord) → toPlainCheck w ≡ Done → (halfUnitCheck w ≡ Done) × (answerCheck (wider (w .format) 1) ≡ Done)
-unfolding toPlainCheck
 to-plain-passed w e = both-passed (halfUnitCheck w) (answerCheck (wider (w .format) 1)) e
 
 pub from-round-bit-passed : (w : RoundBitWord) → fromRoundBitCheck w ≡ Done → (roundBitCheck w ≡ Done) × (answerCheck (wider (w .format) 1) ≡ Done)
-unfolding fromRoundBitCheck
 from-round-bit-passed w e = both-passed (roundBitCheck w) (answerCheck (wider (w .format) 1)) e
 
 pub sum-passed : (x y : HalfUnitWord) → sumCheck x y ≡ Done → (halfUnitCheck x ≡ Done) × (halfUnitCheck y ≡ Done)
-unfolding sumCheck
 sum-passed x y e =
     let p = both-passed (halfUnitCheck x) _ e in
     (p .0, both-passed (halfUnitCheck y) _ (p .1) .0)
 
 pub product-passed : (x y : HalfUnitWord) → productCheck x y ≡ Done → (halfUnitCheck x ≡ Done) × (halfUnitCheck y ≡ Done) × (answerCheck (productFormat (x .format) (y .format)) ≡ Done)
-unfolding productCheck
 product-passed x y e =
     let p = both-passed (halfUnitCheck x) _ e in
     let q = both-passed (halfUnitCheck y) _ (p .1) in

@@ -17,10 +17,10 @@ use Rattle.words.proofs.Flat.{Flat, flat, laidFlat, flatPlain, flatRoundBit, fl
 use Rattle.words.specs.declared.PlainWord.{PlainWord}
 use Rattle.words.specs.declared.RoundBitWord.{RoundBitWord}
 use Rattle.words.specs.declared.HalfUnitWord.{HalfUnitWord}
-use Rattle.half_unit.specs.Cuts.{signChangeWord, signChangeOf, cutCheck, cutWord, cutAnswer, cutOf}
-use Rattle.half_unit.specs.Conversions.{fromPlainCheck, fromPlainUpWord, fromPlainUpOf, evenFloor, fromPlainEvenWord, fromPlainEvenOf, toPlainWord, toPlainCheck, toPlainOf, toRoundBitWord, toRoundBitOf, fromRoundBitWord, fromRoundBitCheck, fromRoundBitOf}
-use Rattle.half_unit.specs.Sums.{sumCheck, sumUpWord, sumUpOf, sumEvenWord, sumEvenOf}
-use Rattle.half_unit.specs.Products.{multiplied, productCheck, productWord, productOf}
+use Rattle.half_unit.specs.Cuts.{signChangeWord, signChangeOf, cutWord, cutAnswer, cutOf}
+use Rattle.half_unit.specs.Conversions.{fromPlainUpWord, fromPlainUpOf, evenFloor, fromPlainEvenWord, fromPlainEvenOf, toPlainWord, toPlainOf, toRoundBitWord, toRoundBitOf, fromRoundBitWord, fromRoundBitOf}
+use Rattle.half_unit.specs.Sums.{sumUpWord, sumUpOf, sumEvenWord, sumEvenOf}
+use Rattle.half_unit.specs.Products.{multiplied, productWord, productOf}
 
 data Row : Type 0 where
   signChange toPlain toRoundBit : HalfUnitWord → Flat → Row
@@ -92,5 +92,5 @@ abbrev differs : Row → Bool
 differs r = not (sameFlat (answer r) (claimed r))
 
 all-wrong : all (length wrong) (λ k. differs (getD wrong k (signChange (at 5 (pos 3)) (refused 3)))) ≡ true
-unfolding firstBad fitsWidth floorBy lowest cleared digit anyBelow formatCheck wordCheck narrowerCheck answerCheck plainCheck roundBitCheck halfUnitCheck halfUnitFitted signChangeWord signChangeOf cutCheck cutWord cutAnswer cutOf fromPlainCheck fromPlainUpWord fromPlainUpOf evenFloor fromPlainEvenWord fromPlainEvenOf toPlainWord toPlainCheck toPlainOf toRoundBitWord toRoundBitOf fromRoundBitWord fromRoundBitCheck fromRoundBitOf sumCheck sumUpWord sumUpOf sumEvenWord sumEvenOf multiplied productCheck productWord productOf
+unfolding firstBad fitsWidth floorBy lowest cleared digit anyBelow formatCheck wordCheck narrowerCheck answerCheck plainCheck roundBitCheck halfUnitCheck halfUnitFitted signChangeWord cutWord cutAnswer fromPlainUpWord evenFloor fromPlainEvenWord toPlainWord toRoundBitWord fromRoundBitWord sumUpWord sumEvenWord multiplied productWord
 all-wrong = refl

@@ -15,7 +15,7 @@ use Rattle.half_unit.specs.declared.CutAnswer.{CutAnswer}
 unfoldable pub signChangeWord : HalfUnitWord → HalfUnitWord
 signChangeWord w = halfUnitWord (turned (w .number .0)) (w .format)
 
-unfoldable pub signChangeOf : HalfUnitWord → HalfUnitAnswer
+abbrev pub signChangeOf : HalfUnitWord → HalfUnitAnswer
 signChangeOf w = halfUnitCheck w andThen halfUnitDone (signChangeWord w)
 
 -- "Cut by d: floor(w / 2^d), width n-d, unit e+d"
@@ -23,7 +23,7 @@ unfoldable pub cutWord : HalfUnitWord → ℕ → HalfUnitWord
 cutWord w d = halfUnitWord (floorBy (w .number .0) d) (narrower (w .format) d)
 
 -- 1, 2, 3, then 5, then 7
-unfoldable pub cutCheck : HalfUnitWord → ℕ → Outcome
+abbrev pub cutCheck : HalfUnitWord → ℕ → Outcome
 cutCheck w d = halfUnitCheck w orElse narrowerCheck (w .format) d
 
 -- the answer of a cut: the word, or the refusal with the blank word
@@ -31,5 +31,5 @@ unfoldable pub cutAnswer : Outcome → HalfUnitWord → CutAnswer
 cutAnswer Done w = record { outcome = Done; word = w }
 cutAnswer (Refused c) w = record { outcome = Refused c; word = halfUnitRefused c .word }
 
-unfoldable pub cutOf : HalfUnitWord → ℕ → CutAnswer
+abbrev pub cutOf : HalfUnitWord → ℕ → CutAnswer
 cutOf w d = cutAnswer (cutCheck w d) (cutWord w d)

@@ -22,8 +22,8 @@ unfoldable pub productWord : HalfUnitWord → HalfUnitWord → HalfUnitWord
 productWord x y = halfUnitWord (multiplied (x .number .0) (y .number .0)) (productFormat (x .format) (y .format))
 
 -- 1, 2, 3 of the first, 1, 2, 3 of the second, then 6, then 7
-unfoldable pub productCheck : HalfUnitWord → HalfUnitWord → Outcome
+abbrev pub productCheck : HalfUnitWord → HalfUnitWord → Outcome
 productCheck x y = halfUnitCheck x orElse halfUnitCheck y orElse answerCheck (productFormat (x .format) (y .format))
 
-unfoldable pub productOf : HalfUnitWord → HalfUnitWord → HalfUnitAnswer
+abbrev pub productOf : HalfUnitWord → HalfUnitWord → HalfUnitAnswer
 productOf x y = productCheck x y andThen halfUnitDone (productWord x y)

@@ -19,21 +19,17 @@ use Rattle.round_bit.specs.Sums.{sumCheck}
 use Rattle.round_bit.specs.Products.{productFormat, productCheck}
 
 pub cut-passed : (w : RoundBitWord) (d : ℕ) → cutCheck w d ≡ Done → (roundBitCheck w ≡ Done) × (narrowerCheck (w .format) d ≡ Done)
-unfolding cutCheck
 cut-passed w d e = both-passed (roundBitCheck w) (narrowerCheck (w .format) d) e
 
 pub widen-passed : (w : RoundBitWord) (d : ℕ) → widenCheck w d ≡ Done → (roundBitCheck w ≡ Done) × (answerCheck (wider (w .format) d) ≡ Done)
-unfolding widenCheck
 widen-passed w d e = both-passed (roundBitCheck w) (answerCheck (wider (w .format) d)) e
 
 pub sum-passed : (x y : RoundBitWord) → sumCheck x y ≡ Done → (roundBitCheck x ≡ Done) × (roundBitCheck y ≡ Done)
-unfolding sumCheck
 sum-passed x y e =
     let p = both-passed (roundBitCheck x) _ e in
     (p .0, both-passed (roundBitCheck y) _ (p .1) .0)
 
 pub product-passed : (x y : RoundBitWord) → productCheck x y ≡ Done → (roundBitCheck x ≡ Done) × (roundBitCheck y ≡ Done) × (answerCheck (productFormat (x .format) (y .format)) ≡ Done)
-unfolding productCheck
 product-passed x y e =
     let p = both-passed (roundBitCheck x) _ e in
     let q = both-passed (roundBitCheck y) _ (p .1) in

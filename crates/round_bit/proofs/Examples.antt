@@ -8,9 +8,9 @@ use Rattle.words.specs.Plain.{plainRefused, plainFitted}
 use Rattle.words.specs.RoundBit.{roundBitWord, roundBitCheck, roundBitRefused, roundBitDone, roundBitFitted}
 use Rattle.words.specs.declared.Outcome.the-variants.{Done, Refused}
 use Rattle.words.proofs.Flat.{roundBitAt as at}
-use Rattle.round_bit.specs.Cuts.{signChangeWord, cutCheck, cutWord, cutAnswer, cutOf, restWord, restOf, evenRoundBit, evenCutWord, evenCutAnswer, evenCutOf, widenCheck, widenWord, widenOf}
-use Rattle.round_bit.specs.Sums.{sumCheck, sumWord, sumOf, differenceOf}
-use Rattle.round_bit.specs.Products.{magnitudeProduct, multiplied, productCheck, productWord, productOf}
+use Rattle.round_bit.specs.Cuts.{signChangeWord, cutWord, cutAnswer, cutOf, restWord, restOf, evenRoundBit, evenCutWord, evenCutAnswer, evenCutOf, widenWord, widenOf}
+use Rattle.round_bit.specs.Sums.{sumWord, sumOf, differenceOf}
+use Rattle.round_bit.specs.Products.{magnitudeProduct, multiplied, productWord, productOf}
 use Rattle.round_bit.specs.Conversions.{toPlainWord, toPlainOf}
 
 sums : (sumOf (at 5 (pos 3) 1) (at 5 (pos 4) 1) ≡ roundBitDone (at 5 (pos 8) 1))
@@ -18,7 +18,7 @@ sums : (sumOf (at 5 (pos 3) 1) (at 5 (pos 4) 1) ≡ roundBitDone (at 5 (pos 8) 1
     × (sumOf (at 5 (pos 15) 0) (at 5 (pos 1) 0) ≡ roundBitRefused (cause 8 tt))
     × (sumOf (at 5 (negsuc 15) 0) (at 5 (negsuc 0) 1) ≡ roundBitRefused (cause 8 tt))
     × (differenceOf (at 5 (pos 5) 0) (at 5 (pos 5) 0) ≡ roundBitDone (at 5 (negsuc 0) 1))
-unfolding fitsWidth formatCheck wordCheck roundBitCheck roundBitFitted signChangeWord sumCheck sumWord sumOf differenceOf
+unfolding fitsWidth formatCheck wordCheck roundBitCheck roundBitFitted signChangeWord sumWord
 sums = (refl, refl, refl, refl, refl)
 
 cuts : (cutOf (at 11 (negsuc 717) 0) 2 ≡ cutAnswer Done (roundBitWord (negsuc 179) 1 (format 9 (pos 2))))
@@ -28,7 +28,7 @@ cuts : (cutOf (at 11 (negsuc 717) 0) 2 ≡ cutAnswer Done (roundBitWord (negsuc 
     × (evenCutOf (at 5 (pos 6) 0) 2 ≡ evenCutAnswer Done (roundBitWord (pos 1) 1 (format 3 (pos 2))))
     × (evenCutOf (at 5 (pos 2) 0) 2 ≡ evenCutAnswer Done (roundBitWord (pos 0) 0 (format 3 (pos 2))))
     × (widenOf (at 4 (pos 5) 1) 2 ≡ roundBitDone (roundBitWord (pos 23) 1 (format 6 (negsuc 1))))
-unfolding fitsWidth floorBy lowest digit digitsBelow anyBelow lowDigits formatCheck wordCheck narrowerCheck answerCheck roundBitCheck cutCheck cutWord cutAnswer cutOf restWord restOf evenRoundBit evenCutWord evenCutAnswer evenCutOf widenCheck widenWord widenOf
+unfolding fitsWidth floorBy lowest digit digitsBelow anyBelow lowDigits formatCheck wordCheck narrowerCheck answerCheck roundBitCheck cutWord cutAnswer restWord evenRoundBit evenCutWord evenCutAnswer widenWord
 cuts = (refl, refl, refl, refl, refl, refl, refl)
 
 products : (productOf (at 5 (pos 11) 1) (at 5 (pos 9) 1) ≡ roundBitDone (at 9 (pos 119) 1))
@@ -36,7 +36,7 @@ products : (productOf (at 5 (pos 11) 1) (at 5 (pos 9) 1) ≡ roundBitDone (at 9 
     × (productOf (at 5 (negsuc 0) 1) (at 5 (pos 9) 1) ≡ roundBitDone (at 9 (negsuc 0) 1))
     × (productOf (at 32 (pos 0) 0) (at 32 (pos 0) 0) .outcome ≡ Done)
     × (toPlainOf (at 5 (pos 15) 1) ≡ plainRefused (cause 8 tt))
-unfolding fitsWidth formatCheck wordCheck answerCheck plainFitted roundBitCheck magnitudeProduct multiplied productCheck productWord productOf toPlainWord toPlainOf
+unfolding fitsWidth formatCheck wordCheck answerCheck plainFitted roundBitCheck magnitudeProduct multiplied productWord toPlainWord
 products = (refl, refl, refl, refl, refl)
 
 -- "-( (0,0)+(0,1) ) is (-1,0), but the sum of the sign-changed words is (-2,1)."

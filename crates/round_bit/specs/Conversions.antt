@@ -11,12 +11,12 @@ use Rattle.words.specs.declared.RoundBitAnswer.{RoundBitAnswer}
 unfoldable pub toPlainWord : RoundBitWord → PlainWord
 toPlainWord w = plainWord (w .number .0 +ℤ pos (w .number .1)) (w .format)
 
-unfoldable pub toPlainOf : RoundBitWord → PlainAnswer
+abbrev pub toPlainOf : RoundBitWord → PlainAnswer
 toPlainOf w = roundBitCheck w andThen plainFitted (toPlainWord w)
 
 -- "From plain: (x, 0)."
 unfoldable pub fromPlainWord : PlainWord → RoundBitWord
 fromPlainWord w = roundBitWord (w .number .0) 0 (w .format)
 
-unfoldable pub fromPlainOf : PlainWord → RoundBitAnswer
+abbrev pub fromPlainOf : PlainWord → RoundBitAnswer
 fromPlainOf w = plainCheck w andThenRoundBit roundBitDone (fromPlainWord w)

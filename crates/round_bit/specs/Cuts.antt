@@ -21,7 +21,7 @@ signChanged n = record { 0 = turned (n .0); 1 = 1 - n .1 }
 unfoldable pub signChangeWord : RoundBitWord → RoundBitWord
 signChangeWord w = record { number = signChanged (w .number); format = w .format }
 
-unfoldable pub signChangeOf : RoundBitWord → RoundBitAnswer
+abbrev pub signChangeOf : RoundBitWord → RoundBitAnswer
 signChangeOf w = roundBitCheck w andThen roundBitDone (signChangeWord w)
 
 -- "Cut by d: d = 0 returns the word. For d >= 1 the answer is (floor(a / 2^d), digit d-1 of a), width n-d, unit e+d. The old round bit is dropped."
@@ -30,7 +30,7 @@ cutWord w zero = w
 cutWord w (suc k) = roundBitWord (floorBy (w .number .0) (suc k)) (digit (w .number .0) k) (narrower (w .format) (suc k))
 
 -- 1, 2, 3, then 5, then 7
-unfoldable pub cutCheck : RoundBitWord → ℕ → Outcome
+abbrev pub cutCheck : RoundBitWord → ℕ → Outcome
 cutCheck w d = roundBitCheck w orElse narrowerCheck (w .format) d
 
 -- the answer of a cut: the word, or the refusal with the blank word
@@ -38,7 +38,7 @@ unfoldable pub cutAnswer : Outcome → RoundBitWord → CutAnswer
 cutAnswer Done w = record { outcome = Done; word = w }
 cutAnswer (Refused c) w = record { outcome = Refused c; word = roundBitRefused c .word }
 
-unfoldable pub cutOf : RoundBitWord → ℕ → CutAnswer
+abbrev pub cutOf : RoundBitWord → ℕ → CutAnswer
 cutOf w d = cutAnswer (cutCheck w d) (cutWord w d)
 
 -- "Rest of a cut, refused as the cut is: a round-bit word of the old width and unit. For d = 0 it is (0,0). For d >= 1 its number is the
@@ -47,7 +47,7 @@ unfoldable pub restWord : RoundBitWord → ℕ → RoundBitWord
 restWord w zero = roundBitWord (pos 0) 0 (w .format)
 restWord w (suc k) = roundBitWord (lowDigits (w .number .0) (suc k)) (w .number .1) (w .format)
 
-unfoldable pub restOf : RoundBitWord → ℕ → RoundBitAnswer
+abbrev pub restOf : RoundBitWord → ℕ → RoundBitAnswer
 restOf w d = cutCheck w d andThen roundBitDone (restWord w d)
 
 -- "the new round bit is (T or b) and h, where h is digit d-1 of a, b is digit d, and T is 1 if any digit below d-1 is 1", for d = k + 1
@@ -63,7 +63,7 @@ unfoldable pub evenCutAnswer : Outcome → RoundBitWord → EvenCutAnswer
 evenCutAnswer Done w = record { outcome = Done; word = w }
 evenCutAnswer (Refused c) w = record { outcome = Refused c; word = roundBitRefused c .word }
 
-unfoldable pub evenCutOf : RoundBitWord → ℕ → EvenCutAnswer
+abbrev pub evenCutOf : RoundBitWord → ℕ → EvenCutAnswer
 evenCutOf w d = evenCutAnswer (cutCheck w d) (evenCutWord w d)
 
 -- "Widen on the right by d: (a * 2^d + r * (2^d - 1), r), width n+d, unit e-d."
@@ -72,8 +72,8 @@ widenWord w d =
     roundBitWord ((w .number .0 *ℤ pos (2 ^ d)) +ℤ pos (w .number .1 * (2 ^ d - 1))) (w .number .1) (wider (w .format) d)
 
 -- 1, 2, 3, then 6, then 7
-unfoldable pub widenCheck : RoundBitWord → ℕ → Outcome
+abbrev pub widenCheck : RoundBitWord → ℕ → Outcome
 widenCheck w d = roundBitCheck w orElse answerCheck (wider (w .format) d)
 
-unfoldable pub widenOf : RoundBitWord → ℕ → RoundBitAnswer
+abbrev pub widenOf : RoundBitWord → ℕ → RoundBitAnswer
 widenOf w d = widenCheck w d andThen roundBitDone (widenWord w d)

@@ -47,8 +47,8 @@ unfoldable pub productWord : RoundBitWord → RoundBitWord → RoundBitWord
 productWord x y = record { number = multiplied (x .number) (y .number); format = productFormat (x .format) (y .format) }
 
 -- 1, 2, 3 of the first, 1, 2, 3 of the second, then 6, then 7
-unfoldable pub productCheck : RoundBitWord → RoundBitWord → Outcome
+abbrev pub productCheck : RoundBitWord → RoundBitWord → Outcome
 productCheck x y = roundBitCheck x orElse roundBitCheck y orElse answerCheck (productFormat (x .format) (y .format))
 
-unfoldable pub productOf : RoundBitWord → RoundBitWord → RoundBitAnswer
+abbrev pub productOf : RoundBitWord → RoundBitWord → RoundBitAnswer
 productOf x y = productCheck x y andThen roundBitDone (productWord x y)

@@ -17,13 +17,13 @@ unfoldable pub sumWord : RoundBitWord → RoundBitWord → RoundBitWord
 sumWord x y = record { number = added (x .number) (y .number); format = x .format }
 
 -- 1, 2, 3 of the first, 1, 2, 3 of the second, then 4
-unfoldable pub sumCheck : RoundBitWord → RoundBitWord → Outcome
+abbrev pub sumCheck : RoundBitWord → RoundBitWord → Outcome
 sumCheck x y = roundBitCheck x orElse roundBitCheck y orElse refuse 4 (differ (x .format) (y .format))
 
 -- then 8, of the number and not of the value
-unfoldable pub sumOf : RoundBitWord → RoundBitWord → RoundBitAnswer
+abbrev pub sumOf : RoundBitWord → RoundBitWord → RoundBitAnswer
 sumOf x y = sumCheck x y andThen roundBitFitted (sumWord x y)
 
 -- "Difference: the sum with the second operand's sign changed."
-unfoldable pub differenceOf : RoundBitWord → RoundBitWord → RoundBitAnswer
+abbrev pub differenceOf : RoundBitWord → RoundBitWord → RoundBitAnswer
 differenceOf x y = sumCheck x y andThen roundBitFitted (sumWord x (signChangeWord y))

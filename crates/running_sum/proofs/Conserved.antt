@@ -19,7 +19,7 @@ use Rattle.words.specs.declared.RoundBitWord.{RoundBitWord}
 use Rattle.words.specs.declared.RoundBitAnswer.{RoundBitAnswer}
 use Rattle.words.proofs.Laws.{refused-not-done, both-passed, passed, round-bit-right, round-bit-passes}
 use Rattle.words.proofs.Operands.{same-format}
-use Rattle.round_bit.specs.Cuts.{cutCheck, cutAnswer, cutOf, restWord, restOf}
+use Rattle.round_bit.specs.Cuts.{cutAnswer, cutOf, restWord, restOf}
 use Rattle.round_bit.specs.Sums.{sumWord, sumOf}
 use Rattle.round_bit.proofs.Laws.Cuts.{cut-done, cut-format, rest-done, rest-closed, rest-refuses, rest-value, rest-small}
 use Rattle.round_bit.proofs.Laws.Sums.{sum-done, sum-closed, sum-value}
@@ -87,7 +87,7 @@ put-tells s w e =
     (p .1, same-format (s .kept .format) (w .format) (passed Mismatch _ (t .0)))
 
 pub sum-tells : (s : RunningSum) → sumCheck s ≡ Done → cutOf (s .kept) (s .depth) .outcome ≡ Done
-unfolding sumCheck cutOf cutCheck cutAnswer
+unfolding cutAnswer
 sum-tells s e =
     let p = both-passed (roundBitCheck (s .kept)) (depthCheck (s .kept .format) (s .depth)) e in
     rw (p .0, depth-passed (s .kept .format) (s .depth) (p .1))
@@ -197,7 +197,6 @@ kept-right s empty k = go (sumCheck s)
     go (Refused c) = k
 
 pub step-keeps : (s : RunningSum) (c : Call) → sumCheck s ≡ Done → sumCheck (stepOf s c .sum) ≡ Done
-unfolding sumCheck
 step-keeps s c e =
     let p = both-passed (roundBitCheck (s .kept)) (depthCheck (s .kept .format) (s .depth)) e in
     let f = step-format s c in
@@ -208,7 +207,7 @@ abbrev pub shut : RunningSum
 shut = record { kept = blank; depth = 0 }
 
 shut-outcome : (c : Call) → stepOf shut c .outcome ≡ Done → ⊥
-unfolding stepOf sumCheck putCheck depthCheck
+unfolding stepOf putCheck depthCheck
 shut-outcome (put w) e =
     let p = both-passed (putCheck shut w) _ (sym (step-outcome _ _ _ _) ∙ e) in
     let q = both-passed (roundBitCheck blank) _ (p .0) in

@@ -78,7 +78,7 @@ opened-value Done f d = refl
 opened-value (Refused c) f d = refl
 
 opened-passes : (f : Format) (d : ℕ) → openCheck f d ≡ Done → sumCheck (openAnswer Done f d .sum) ≡ Done
-unfolding openCheck openAnswer sumCheck
+unfolding openAnswer
 opened-passes f d e =
     let p = both-passed (formatCheck f) (depthCheck f d) e in
     let g : Right f (pos 0) 0 = record { format = right-format f (p .0); size = pow-pos (f .width - 1); bit = omega arith } in

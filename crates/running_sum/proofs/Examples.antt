@@ -9,11 +9,10 @@ use Rattle.words.specs.Formats.{format, narrowerCheck}
 use Rattle.words.specs.RoundBit.{roundBitWord, roundBitCheck, roundBitFitted}
 use Rattle.words.specs.declared.RoundBitWord.{RoundBitWord}
 use Rattle.words.specs.declared.RoundBit.{RoundBit}
-use Rattle.round_bit.specs.Cuts.{cutCheck, cutWord, cutAnswer, cutOf, restWord, restOf}
-use Rattle.round_bit.specs.Sums.{sumWord, sumOf}
-use Rattle.round_bit.specs.Sums
+use Rattle.round_bit.specs.Cuts.{cutWord, cutAnswer, restWord}
+use Rattle.round_bit.specs.Sums.{sumWord}
 use Rattle.running_sum.specs.declared.RunningSum.{RunningSum}
-use Rattle.running_sum.specs.Steps.{depthCheck, openCheck, openAnswer, openOf, Call, put, handOut, empty, stepped, sumCheck, putCheck, stepOf}
+use Rattle.running_sum.specs.Steps.{depthCheck, openAnswer, openOf, Call, put, handOut, empty, stepped, putCheck, stepOf}
 
 abbrev pair : ℤ → ℕ → RoundBit
 pair a r = record { 0 = a; 1 = r }
@@ -33,5 +32,5 @@ p14 : trace (openOf 8 (pos 0) 2 .sum) (word (pos 3) 0 ∷ handOut ∷ word (pos 
     ∷ (pair (pos 0) 0, pair (negsuc 1) 1)
     ∷ (pair (negsuc 0) 1, pair (negsuc 1) 1)
     ∷ []
-unfolding fitsWidth floorBy lowest digit digitsBelow lowDigits formatCheck wordCheck narrowerCheck roundBitCheck roundBitFitted cutCheck cutWord cutAnswer cutOf restWord restOf sumWord sumOf Sums.sumCheck depthCheck openCheck openAnswer openOf stepped sumCheck putCheck stepOf
+unfolding fitsWidth floorBy lowest digit digitsBelow lowDigits formatCheck wordCheck narrowerCheck roundBitCheck roundBitFitted cutWord cutAnswer restWord sumWord depthCheck openAnswer openOf stepped putCheck stepOf
 p14 = refl

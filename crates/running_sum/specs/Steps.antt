@@ -34,7 +34,7 @@ unfoldable pub depthCheck : Format → ℕ → Outcome
 depthCheck f d = refuse 5 (badDepth (f .width) d) orElse refuse 7 (badUnit (f .unit +ℤ pos d))
 
 -- "Opened with a width N, unit e and depth d": 1, 2, 5 and 7
-unfoldable pub openCheck : Format → ℕ → Outcome
+abbrev pub openCheck : Format → ℕ → Outcome
 openCheck f d = formatCheck f orElse depthCheck f d
 
 -- "it keeps a round-bit word of width N and unit e, at first (0,0)". Refused, "it then gives a sum that keeps the blank word at depth 0"
@@ -66,7 +66,7 @@ stepped Done w new old = record { outcome = Done; word = w; sum = new }
 stepped (Refused c) w new old = record { outcome = Refused c; word = blank; sum = old }
 
 -- the sum "is the first operand, refused by 1, 2, 3 for its kept word and by 5 and 7 for its depth"
-unfoldable pub sumCheck : RunningSum → Outcome
+abbrev pub sumCheck : RunningSum → Outcome
 sumCheck s = roundBitCheck (s .kept) orElse depthCheck (s .kept .format) (s .depth)
 
 -- "Put may also refuse 1, 2, 3 of the word, 4 and 8": after the sum's 1, 2, 3 those of the word, then the lowest of 4, 5, 7 and 8

@@ -3,5 +3,6 @@ pub mod Formats
 pub mod Rights
 pub mod Operands
 pub mod Flat
+pub mod Arms
 mod Unique
 mod Examples

@@ -22,7 +22,7 @@ use Rattle.words.proofs.Laws.{RightFormat, Right, plain-passes, round-bit-passe
 use Rattle.words.proofs.Formats.{narrower-passes, narrower-wider}
 use Rattle.words.proofs.Rights.{cleared-right, doubled-right}
 use Rattle.words.proofs.Operands.{done-passed, wider-right}
-use Rattle.half_unit.specs.Cuts.{cutWord, cutCheck}
+use Rattle.half_unit.specs.Cuts.{cutWord}
 use Rattle.half_unit.specs.Conversions.{fromPlainCheck, fromPlainUpWord, fromPlainUpOf, evenFloor, fromPlainEvenWord, fromPlainEvenOf, toPlainWord, toPlainCheck, toPlainOf, toRoundBitWord, toRoundBitOf, fromRoundBitWord, fromRoundBitCheck, fromRoundBitOf, intervalLow, intervalHigh}
 use Rattle.half_unit.proofs.Laws.Cuts.{floor-moves, answer-closed, cut-word-passes}
 
@@ -45,20 +45,19 @@ by-even-rule w d Q tie up = go (anyBelow (w .number .0) d) refl
 
 -- ---- what the checks of the conversions with one digit more tell
 to-plain-done : (w : HalfUnitWord) → toPlainOf w .outcome ≡ Done → toPlainCheck w ≡ Done
-unfolding toPlainOf
 to-plain-done w e = done-passed plainRefused (λ a. a .outcome) (λ c. refl) (toPlainCheck w) (plainDone (toPlainWord w)) e
 
 to-plain-tells : (w : HalfUnitWord) → toPlainCheck w ≡ Done → Right (w .format) (w .number .0) 0 × RightFormat (wider (w .format) 1)
-unfolding toPlainCheck halfUnitCheck
+unfolding halfUnitCheck
 to-plain-tells w c = wider-right (w .format) (w .number .0) 0 1 c
 
 from-round-bit-tells : (w : RoundBitWord) → fromRoundBitCheck w ≡ Done → Right (w .format) (w .number .0) (w .number .1) × RightFormat (wider (w .format) 1)
-unfolding fromRoundBitCheck roundBitCheck
+unfolding roundBitCheck
 from-round-bit-tells w c = wider-right (w .format) (w .number .0) (w .number .1) 1 c
 
 -- ---- the words that a passed check lets through pass their own. The up rule cuts the half-unit word that has the plain word's number
 up-word-passes : (w : PlainWord) (d : ℕ) → fromPlainCheck w d ≡ Done → halfUnitCheck (fromPlainUpWord w d) ≡ Done
-unfolding fromPlainCheck plainCheck fromPlainUpWord cutCheck halfUnitCheck cutWord
+unfolding plainCheck fromPlainUpWord halfUnitCheck cutWord
 up-word-passes w d c = cut-word-passes (halfUnitWord (w .number .0) (w .format)) d c
 
 even-word-passes : (w : PlainWord) (d : ℕ) → fromPlainCheck w d ≡ Done → halfUnitCheck (fromPlainEvenWord w d) ≡ Done
@@ -78,25 +77,21 @@ middle-word-passes w c = let t = from-round-bit-tells w c in half-unit-passes _ 
 
 -- ---- closed: the word of a done answer passes its own check
 pub from-plain-up-closed : (w : PlainWord) (d : ℕ) → fromPlainUpOf w d .outcome ≡ Done → halfUnitCheck (fromPlainUpOf w d .word) ≡ Done
-unfolding fromPlainUpOf
 from-plain-up-closed w d e = answer-closed (fromPlainCheck w d) (fromPlainUpWord w d) (up-word-passes w d) e
 
 pub from-plain-even-closed : (w : PlainWord) (d : ℕ) → fromPlainEvenOf w d .outcome ≡ Done → halfUnitCheck (fromPlainEvenOf w d .word) ≡ Done
-unfolding fromPlainEvenOf
 from-plain-even-closed w d e = answer-closed (fromPlainCheck w d) (fromPlainEvenWord w d) (even-word-passes w d) e
 
 pub to-plain-closed : (w : HalfUnitWord) → toPlainOf w .outcome ≡ Done → plainCheck (toPlainOf w .word) ≡ Done
-unfolding toPlainOf
 to-plain-closed w e = let c = to-plain-done w e in rw c (plain-passes (toPlainWord w) (plain-word-right w c))
 
 pub to-round-bit-closed : (w : HalfUnitWord) → toRoundBitOf w .outcome ≡ Done → roundBitCheck (toRoundBitOf w .word) ≡ Done
-unfolding toRoundBitOf toRoundBitWord
+unfolding toRoundBitWord
 to-round-bit-closed w e =
     let c = done-passed roundBitRefused (λ a. a .outcome) (λ c. refl) (toPlainCheck w) (roundBitDone (toRoundBitWord w)) e in
     rw c (round-bit-passes (toRoundBitWord w) (plain-word-right w c))
 
 pub from-round-bit-closed : (w : RoundBitWord) → fromRoundBitOf w .outcome ≡ Done → halfUnitCheck (fromRoundBitOf w .word) ≡ Done
-unfolding fromRoundBitOf
 from-round-bit-closed w e = answer-closed (fromRoundBitCheck w) (fromRoundBitWord w) (middle-word-passes w) e
 
 -- ---- from plain: the value moves by at most half a new unit, 2 ^ d half old units, and by exactly that only where every dropped digit is 0
@@ -171,7 +166,7 @@ to-plain-back w =
     rw (*ℤ-comm (pos 2) x, floor-widened x 1 1 (omega arith), narrower-wider (w .format) 1)
 
 pub to-from-plain : (w : HalfUnitWord) → toPlainOf w .outcome ≡ Done → fromPlainUpOf (toPlainOf w .word) 1 ≡ halfUnitDone w
-unfolding toPlainOf fromPlainUpOf fromPlainCheck toPlainWord
+unfolding toPlainWord
 to-from-plain w e =
     let c = to-plain-done w e in
     let t = to-plain-tells w c in

@@ -40,16 +40,14 @@ cut-answer-outcome Done w = refl
 cut-answer-outcome (Refused c) w = refl
 
 cut-done : (w : HalfUnitWord) (d : ℕ) → cutOf w d .outcome ≡ Done → (cutCheck w d ≡ Done) × (cutOf w d .word ≡ cutWord w d)
-unfolding cutOf cutAnswer
+unfolding cutAnswer
 cut-done w d e = let c = sym (cut-answer-outcome (cutCheck w d) (cutWord w d)) ∙ e in (c, rw c)
 
 -- ---- what the check of a cut tells, and what it asks
 cut-tells : (w : HalfUnitWord) (d : ℕ) → cutCheck w d ≡ Done → Right (w .format) (w .number .0) 0 × (narrowerCheck (w .format) d ≡ Done)
-unfolding cutCheck
 cut-tells w d c = let p = both-passed (halfUnitCheck w) (narrowerCheck (w .format) d) c in (half-unit-right w (p .0), p .1)
 
 cut-asks : (w : HalfUnitWord) (d : ℕ) → Right (w .format) (w .number .0) 0 → narrowerCheck (w .format) d ≡ Done → cutCheck w d ≡ Done
-unfolding cutCheck
 cut-asks w d g e = both-pass (half-unit-passes w g) e
 
 -- ---- closed: the word of a done answer passes its own check, if a passed check of the operation makes it pass
@@ -62,7 +60,6 @@ unfolding halfUnitCheck wordCheck signChangeWord
 sign-change-check w = rw (fits-turned (w .number .0) (w .format .width))
 
 pub sign-change-closed : (w : HalfUnitWord) → signChangeOf w .outcome ≡ Done → halfUnitCheck (signChangeOf w .word) ≡ Done
-unfolding signChangeOf
 sign-change-closed w e = answer-closed (halfUnitCheck w) (signChangeWord w) (λ c. sign-change-check w ∙ c) e
 
 pub cut-word-passes : (w : HalfUnitWord) (d : ℕ) → cutCheck w d ≡ Done → halfUnitCheck (cutWord w d) ≡ Done
@@ -91,7 +88,7 @@ cut-value w d e =
     rw (cut-done w d e .1) (omega (arith, floor-moves x (halfUnitValue w) (floorBy x d) 1 0 d (half-unit-law x) (omega arith), below-range x d))
 
 pub cut-none : (w : HalfUnitWord) → halfUnitCheck w ≡ Done → cutOf w 0 ≡ cutAnswer Done w
-unfolding cutOf cutWord
+unfolding cutWord
 cut-none w e =
     let g = half-unit-right w e in
     let same = narrower-none (w .format) in
@@ -103,7 +100,7 @@ unfolding cutWord
 cut-word-twice w a b = rw (floor-floor (w .number .0) a b, narrower-narrower (w .format) a b)
 
 pub cut-cut : (w : HalfUnitWord) (a b : ℕ) → cutOf w (a + b) .outcome ≡ Done → (cutOf w a .outcome ≡ Done) × (cutOf (cutOf w a .word) b ≡ cutOf w (a + b))
-unfolding cutOf cutWord
+unfolding cutWord
 cut-cut w a b e =
     let c = cut-done w (a + b) e .0 in
     let t = cut-tells w (a + b) c in
@@ -115,7 +112,7 @@ cut-cut w a b e =
 
 -- a cut of the sign-changed word
 pub cut-sign-outcome : (w : HalfUnitWord) (d : ℕ) → cutOf (signChangeWord w) d .outcome ≡ cutOf w d .outcome
-unfolding cutOf cutCheck signChangeWord
+unfolding signChangeWord
 cut-sign-outcome w d = simp (cut-answer-outcome, sign-change-check w)
 
 cut-word-sign : (w : HalfUnitWord) (d : ℕ) → cutWord (signChangeWord w) d ≡ signChangeWord (cutWord w d)

@@ -25,20 +25,19 @@ use Rattle.half_unit.proofs.Laws.Cuts.{answer-closed}
 
 -- ---- what the check of a sum tells, and that it does not look at the order
 sum-tells : (x y : HalfUnitWord) → sumCheck x y ≡ Done → Right (x .format) (x .number .0) 0 × Right (y .format) (y .number .0) 0 × (x .format ≡ y .format)
-unfolding sumCheck halfUnitCheck
+unfolding halfUnitCheck
 sum-tells x y c = operands-right (x .format) (x .number .0) 0 (y .format) (y .number .0) 0 c
 
 sum-check-comm : (x y : HalfUnitWord) → sumCheck x y ≡ Done → sumCheck y x ≡ Done
-unfolding sumCheck halfUnitCheck
+unfolding halfUnitCheck
 sum-check-comm x y c = let t = sum-tells x y c in right-operands (t .1) (t .0) (sym (t .2))
 
 -- ---- a done product passed its check; what that tells, and that it does not look at the order
 product-done : (x y : HalfUnitWord) → productOf x y .outcome ≡ Done → productCheck x y ≡ Done
-unfolding productOf
 product-done x y e = done-passed halfUnitRefused (λ a. a .outcome) (λ c. refl) (productCheck x y) (halfUnitDone (productWord x y)) e
 
 product-tells : (x y : HalfUnitWord) → productCheck x y ≡ Done → Right (x .format) (x .number .0) 0 × Right (y .format) (y .number .0) 0 × RightFormat (productFormat (x .format) (y .format))
-unfolding productCheck halfUnitCheck
+unfolding halfUnitCheck
 product-tells x y c =
     let f = productFormat (x .format) (y .format) in
     let p = both-right (x .format) (x .number .0) 0 (y .format) (y .number .0) 0 (answerCheck f) c in
@@ -50,7 +49,7 @@ product-format-comm f g =
     rw (width, +ℤ-comm (f .unit) (g .unit))
 
 product-check-comm : (x y : HalfUnitWord) → productCheck x y ≡ Done → productCheck y x ≡ Done
-unfolding productCheck halfUnitCheck
+unfolding halfUnitCheck
 product-check-comm x y c =
     let t = product-tells x y c in
     right-both (t .1) (t .0) (answer-done _ (rw (product-format-comm (x .format) (y .format)) at (t .2)))
@@ -65,11 +64,11 @@ module _ (o : Outcome) (w : HalfUnitWord) (right : o ≡ Done → RightFormat (w
       rw (p .0, fit-passes (w .format) x (p .1)) (half-unit-passes w (record { format = right (p .0); size = p .1; bit = omega arith }))
 
 pub sum-up-closed : (x y : HalfUnitWord) → sumUpOf x y .outcome ≡ Done → halfUnitCheck (sumUpOf x y .word) ≡ Done
-unfolding sumUpOf sumUpWord
+unfolding sumUpWord
 sum-up-closed x y e = fitted-closed (sumCheck x y) (sumUpWord x y) (λ c. sum-tells x y c .0 .format) e
 
 pub sum-even-closed : (x y : HalfUnitWord) → sumEvenOf x y .outcome ≡ Done → halfUnitCheck (sumEvenOf x y .word) ≡ Done
-unfolding sumEvenOf sumEvenWord
+unfolding sumEvenWord
 sum-even-closed x y e = fitted-closed (sumCheck x y) (sumEvenWord x y) (λ c. sum-tells x y c .0 .format) e
 
 product-word-passes : (x y : HalfUnitWord) → productCheck x y ≡ Done → halfUnitCheck (productWord x y) ≡ Done
@@ -83,7 +82,6 @@ product-word-passes x y c =
     half-unit-passes _ (record { format = t .2; size = rw digits size; bit = omega arith })
 
 pub product-closed : (x y : HalfUnitWord) → productOf x y .outcome ≡ Done → halfUnitCheck (productOf x y .word) ≡ Done
-unfolding productOf
 product-closed x y e = answer-closed (productCheck x y) (productWord x y) (product-word-passes x y) e
 
 -- ---- up sum: the exact sum plus half a unit, always. Even sum: half a unit away, lowest digit 0
@@ -134,11 +132,10 @@ unfolding sumUpWord
 sum-up-word-comm x y same = rw (same, +ℤ-comm (x .number .0) (y .number .0))
 
 pub sum-up-comm : (x y : HalfUnitWord) → sumCheck x y ≡ Done → sumUpOf x y ≡ sumUpOf y x
-unfolding sumUpOf
 sum-up-comm x y e = rw (e, sum-check-comm x y e, sum-up-word-comm x y (sum-tells x y e .2))
 
 pub sum-even-comm : (x y : HalfUnitWord) → sumCheck x y ≡ Done → sumEvenOf x y ≡ sumEvenOf y x
-unfolding sumEvenOf sumEvenWord
+unfolding sumEvenWord
 sum-even-comm x y e =
     let same = sum-tells x y e .2 in
     rw (e, sum-check-comm x y e, sum-up-word-comm x y same, same)
@@ -148,7 +145,7 @@ unfolding halfUnitFitted
 fitted-outcome w = outcome-kept halfUnitRefused (λ a. a .outcome) (λ c. refl) (refuse 8 (outside (w .format) (w .number .0))) (halfUnitDone w) refl
 
 pub sum-same-outcome : (x y : HalfUnitWord) → sumEvenOf x y .outcome ≡ sumUpOf x y .outcome
-unfolding sumEvenOf sumEvenWord sumUpOf sumUpWord
+unfolding sumEvenWord sumUpWord
 sum-same-outcome x y = go (sumCheck x y) refl
   where
     go : (o : Outcome) → sumCheck x y ≡ o → (o andThen halfUnitFitted (sumEvenWord x y)) .outcome ≡ (o andThen halfUnitFitted (sumUpWord x y)) .outcome
@@ -160,7 +157,7 @@ sum-same-outcome x y = go (sumCheck x y) refl
 
 -- ---- product: exact, in halves of the product's unit, and commutative
 pub product-value : (x y : HalfUnitWord) → productOf x y .outcome ≡ Done → halfUnitValue (productOf x y .word) ≡ halfUnitValue x *ℤ halfUnitValue y
-unfolding productOf productWord multiplied value
+unfolding productWord multiplied value
 product-value x y e =
     let a = x .number .0 in
     let b = y .number .0 in
@@ -174,5 +171,4 @@ product-word-comm x y =
     rw (*ℤ-comm p q, product-format-comm (x .format) (y .format))
 
 pub product-comm : (x y : HalfUnitWord) → productOf x y .outcome ≡ Done → productOf x y ≡ productOf y x
-unfolding productOf
 product-comm x y e = let c = product-done x y e in rw (c, product-check-comm x y c, product-word-comm x y)

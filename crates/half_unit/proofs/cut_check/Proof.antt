@@ -1,16 +1,7 @@
-use Rattle.words.proofs.Formats.{answer-outcome}
-use Rattle.half_unit.specs.Cuts.{cutCheck}
+use Rattle.words.proofs.Arms.{arms}
 use borrow.Author.Needs.{needs}
 use Rattle.half_unit.proofs.cut_check.Statement.{statement}
 use Rattle.half_unit.proofs.cut_check.Tie as tie
 
-returns : tie.Need-returns
-unfolding cutCheck
-returns c = rw (← c .before .before .before .half-unit-check .ensures, c .before .c .given .1)
-
-returns-2 : tie.Need-returns-2
-unfolding cutCheck
-returns-2 c = rw (← c .before .before .before .half-unit-check .ensures, c .before .enum-told .given .1, c .narrower .ensures, answer-outcome)
-
 pub cut-check-spec : {M : Type 1} → statement M
-cut-check-spec = tie.close (tie.spec (λ c κs. search needs) (λ c. search needs) (λ c. search needs) (λ c κs. search needs) returns returns-2)
+cut-check-spec = tie.close (tie.spec (λ c κs. search needs) (λ c. search needs) (λ c. search needs) (λ c κs. search needs) (λ c. search arms) (λ c. search arms))

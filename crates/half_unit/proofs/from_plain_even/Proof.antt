@@ -1,23 +1,8 @@
-use mathlib.Core.Path.{_≡_, sym, _∙_}
-use Rattle.half_unit.specs.Conversions.{fromPlainCheck, fromPlainEvenOf}
-use Rattle.words.specs.declared.Outcome.the-variants.{Done}
+use Rattle.words.specs.HalfUnit.{halfUnitRefused, halfUnitDone}
+use Rattle.words.proofs.Arms.{arms, answering}
 use borrow.Author.Needs.{needs}
 use Rattle.half_unit.proofs.from_plain_even.Statement.{statement}
 use Rattle.half_unit.proofs.from_plain_even.Tie as tie
 
-passed : (c : tie.After-enum-told) → fromPlainCheck (c .before .before .before .args .w) (c .before .before .before .args .d) ≡ Done
-passed c = sym (c .before .before .from-plain-check .ensures) ∙ c .enum-told .given .1
-
-from-plain-even-word-requires : tie.Need-from-plain-even-word-requires
-from-plain-even-word-requires c κs = passed c
-
-returns : tie.Need-returns
-unfolding fromPlainEvenOf
-returns c = c .half-unit-refused .ensures ∙ rw (← c .before .before .before .before .from-plain-check .ensures, c .before .before .c .given .1)
-
-returns-2 : tie.Need-returns-2
-unfolding fromPlainEvenOf
-returns-2 c = rw (c .half-unit-done .ensures, c .before .from-plain-even-word .ensures, passed (c .before .before))
-
 pub from-plain-even-spec : {M : Type 1} → statement M
-from-plain-even-spec = tie.close (tie.spec (λ c κs. search needs) (λ c. search needs) (λ c κs. search needs) (λ c. search needs) from-plain-even-word-requires (λ c κs. search needs) returns returns-2)
+from-plain-even-spec = tie.close (tie.spec (λ c κs. search needs) (λ c. search needs) (λ c κs. search needs) (λ c. search needs) (λ c κs. search arms) (λ c κs. search needs) (λ c. search arms) (λ c. search (answering halfUnitRefused halfUnitDone)))

@@ -1,22 +1,7 @@
-use Rattle.words.proofs.Formats.{answer-outcome}
-use Rattle.half_unit.specs.Products.{productCheck}
+use Rattle.words.proofs.Arms.{arms}
 use borrow.Author.Needs.{needs}
 use Rattle.half_unit.proofs.product_check.Statement.{statement}
 use Rattle.half_unit.proofs.product_check.Tie as tie
 
-returns : tie.Need-returns
-unfolding productCheck
-returns c = rw (← c .before .before .before .half-unit-check .ensures, c .before .c .given .1)
-
-returns-2 : tie.Need-returns-2
-unfolding productCheck
-returns-2 c =
-    rw (← c .before .before .before .before .before .before .half-unit-check .ensures, c .before .before .before .before .enum-told .given .1, ← c .before .before .before .half-unit-check2 .ensures, c .before .c2 .given .1)
-
-returns-3 : tie.Need-returns-3
-unfolding productCheck
-returns-3 c =
-    rw (← c .before .before .before .before .before .before .half-unit-check .ensures, c .before .before .before .before .enum-told .given .1, ← c .before .before .before .half-unit-check2 .ensures, c .before .enum-told2 .given .1, c .product-format .ensures, answer-outcome)
-
 pub product-check-spec : {M : Type 1} → statement M
-product-check-spec = tie.close (tie.spec (λ c κs. search needs) (λ c. search needs) (λ c. search needs) (λ c κs. search needs) (λ c. search needs) (λ c. search needs) (λ c κs. search needs) returns returns-2 returns-3)
+product-check-spec = tie.close (tie.spec (λ c κs. search needs) (λ c. search needs) (λ c. search needs) (λ c κs. search needs) (λ c. search needs) (λ c. search needs) (λ c κs. search needs) (λ c. search arms) (λ c. search arms) (λ c. search arms))

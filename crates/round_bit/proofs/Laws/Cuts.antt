@@ -35,23 +35,18 @@ unfolding cutAnswer evenCutAnswer
 word-kept w c = rw c (refl, refl, refl)
 
 pub sign-change-done : (w : RoundBitWord) → signChangeOf w .outcome ≡ Done → (roundBitCheck w ≡ Done) × (signChangeOf w .word ≡ signChangeWord w)
-unfolding signChangeOf
 sign-change-done w e = let c = sym (outcome-kept _ (signChangeWord w) .0) ∙ e in (c, word-kept (signChangeWord w) c .0)
 
 pub cut-done : (w : RoundBitWord) (d : ℕ) → cutOf w d .outcome ≡ Done → (cutCheck w d ≡ Done) × (cutOf w d .word ≡ cutWord w d)
-unfolding cutOf
 cut-done w d e = let c = sym (outcome-kept _ (cutWord w d) .1) ∙ e in (c, word-kept (cutWord w d) c .1)
 
 pub rest-done : (w : RoundBitWord) (d : ℕ) → restOf w d .outcome ≡ Done → (cutCheck w d ≡ Done) × (restOf w d .word ≡ restWord w d)
-unfolding restOf
 rest-done w d e = let c = sym (outcome-kept _ (restWord w d) .0) ∙ e in (c, word-kept (restWord w d) c .0)
 
 pub even-cut-done : (w : RoundBitWord) (d : ℕ) → evenCutOf w d .outcome ≡ Done → (cutCheck w d ≡ Done) × (evenCutOf w d .word ≡ evenCutWord w d)
-unfolding evenCutOf
 even-cut-done w d e = let c = sym (outcome-kept _ (evenCutWord w d) .2) ∙ e in (c, word-kept (evenCutWord w d) c .2)
 
 pub widen-done : (w : RoundBitWord) (d : ℕ) → widenOf w d .outcome ≡ Done → (widenCheck w d ≡ Done) × (widenOf w d .word ≡ widenWord w d)
-unfolding widenOf
 widen-done w d e = let c = sym (outcome-kept _ (widenWord w d) .0) ∙ e in (c, word-kept (widenWord w d) c .0)
 
 -- ---- what a done check tells, and what that of a cut asks
@@ -59,7 +54,6 @@ pub cut-tells : (w : RoundBitWord) (d : ℕ) → cutCheck w d ≡ Done → Right
 cut-tells w d c = let t = cut-passed w d c in (round-bit-right w (t .0), t .1)
 
 cut-passes : (w : RoundBitWord) (d : ℕ) → RightRoundBit w → narrowerCheck (w .format) d ≡ Done → cutCheck w d ≡ Done
-unfolding cutCheck
 cut-passes w d g e = both-pass (round-bit-passes w g) e
 
 pub widen-tells : (w : RoundBitWord) (d : ℕ) → widenCheck w d ≡ Done → RightRoundBit w × RightFormat (wider (w .format) d)
@@ -157,7 +151,7 @@ pub cut-value : (w : RoundBitWord) (d : ℕ) → cutOf w d .outcome ≡ Done →
 cut-value w d e = let c = cut-done w d e in rw (c .1) (cut-near w d (cut-tells w d (c .0) .0 .bit))
 
 pub cut-none : (w : RoundBitWord) → roundBitCheck w ≡ Done → cutOf w 0 ≡ cutAnswer Done w
-unfolding cutOf cutWord
+unfolding cutWord
 cut-none w e =
     let g = round-bit-right w e in
     rw (cut-passes w 0 g (narrower-passes (w .format) 0 (g .format) (rw (narrower-none (w .format)) (g .format))))
@@ -178,7 +172,6 @@ cut-word-twice w (suc j) (suc k) =
     rw (floor-floor x (suc j) (suc k), digit-floor x (suc j) k, narrower-narrower (w .format) (suc j) (suc k), depth)
 
 pub cut-cut : (w : RoundBitWord) (a b : ℕ) → cutOf w (a + b) .outcome ≡ Done → (cutOf w a .outcome ≡ Done) × (cutOf (cutOf w a .word) b ≡ cutOf w (a + b))
-unfolding cutOf
 cut-cut w a b e =
     let c = cut-done w (a + b) e .0 in
     let t = cut-tells w (a + b) c in
@@ -190,7 +183,7 @@ cut-cut w a b e =
 
 -- a cut of the sign-changed word
 cut-sign-check : (w : RoundBitWord) (d : ℕ) → roundBitCheck w ≡ Done → cutCheck (signChangeWord w) d ≡ cutCheck w d
-unfolding cutCheck signChangeWord
+unfolding signChangeWord
 cut-sign-check w d e = rw (round-bit-passes _ (sign-change-right w e), e)
 
 cut-sign-word : (w : RoundBitWord) (d : ℕ) → cutWord (signChangeWord w) d ≡ signChangeWord (cutWord w d)
@@ -199,7 +192,6 @@ cut-sign-word w zero = refl
 cut-sign-word w (suc k) = rw (floor-turned (w .number .0) (suc k), digit-turned (w .number .0) k)
 
 pub cut-sign-outcome : (w : RoundBitWord) (d : ℕ) → roundBitCheck w ≡ Done → cutOf (signChangeWord w) d .outcome ≡ cutOf w d .outcome
-unfolding cutOf
 cut-sign-outcome w d e = outcome-kept _ (cutWord (signChangeWord w) d) .1 ∙ cut-sign-check w d e ∙ sym (outcome-kept _ (cutWord w d) .1)
 
 pub cut-sign : (w : RoundBitWord) (d : ℕ) → cutOf w d .outcome ≡ Done → cutOf (signChangeWord w) d .word ≡ signChangeWord (cutOf w d .word)
@@ -210,7 +202,6 @@ cut-sign w d e =
 
 -- ---- rest: value = cut value * 2 ^ d + rest value, and the rest is at most half a new unit either way
 pub rest-refuses : (w : RoundBitWord) (d : ℕ) → restOf w d .outcome ≡ cutOf w d .outcome
-unfolding restOf cutOf
 rest-refuses w d = outcome-kept _ (restWord w d) .0 ∙ sym (outcome-kept _ (cutWord w d) .1)
 
 pub rest-value : (w : RoundBitWord) (d : ℕ) → cutOf w d .outcome ≡ Done → (roundBitValue (cutOf w d .word) *ℤ pos (2 ^ d)) +ℤ roundBitValue (restOf w d .word) ≡ roundBitValue w
@@ -275,7 +266,7 @@ widen-cut-word w (suc k) h =
     rw (floor-widened a r (suc k) h, digit-widened a r k h, narrower-wider (w .format) (suc k))
 
 pub widen-cut : (w : RoundBitWord) (d : ℕ) → widenOf w d .outcome ≡ Done → cutOf (widenOf w d .word) d ≡ cutAnswer Done w
-unfolding cutOf widenWord
+unfolding widenWord
 widen-cut w d e =
     let c = widen-done w d e in
     let g = widen-tells w d (c .0) in

@@ -123,7 +123,7 @@ record Factors (x y : RoundBitWord) : Type 0 where
   format : RightFormat (productFormat (x .format) (y .format))
 
 product-tells : (x y : RoundBitWord) → productOf x y .outcome ≡ Done → Factors x y
-unfolding productOf productCheck roundBitCheck
+unfolding roundBitCheck
 product-tells x y e =
     let f = productFormat (x .format) (y .format) in
     let c = done-passed roundBitRefused (λ a. a .outcome) (λ c. refl) (productCheck x y) (roundBitDone (productWord x y)) e in
@@ -131,7 +131,7 @@ product-tells x y e =
     record { first = p .0; second = p .1; format = answer-right f (omega (arith, p .0 .format .narrow, p .1 .format .narrow)) (p .2) }
 
 product-is-word : (x y : RoundBitWord) → Factors x y → productOf x y ≡ roundBitDone (productWord x y)
-unfolding productOf productCheck roundBitCheck
+unfolding roundBitCheck
 product-is-word x y g = rw (right-both (g .first) (g .second) (answer-done (productFormat (x .format) (y .format)) (g .format)))
 
 product-word-right : (x y : RoundBitWord) → Factors x y → roundBitCheck (productWord x y) ≡ Done
@@ -183,7 +183,7 @@ product-comm x y e =
 
 -- ---- one operand sign-changed is the sign-changed product, both are the product, digit for digit
 pub product-sign-first : (x y : RoundBitWord) → productOf x y .outcome ≡ Done → productOf (signChangeWord x) y ≡ signChangeOf (productOf x y .word)
-unfolding productWord signChangeWord signChangeOf
+unfolding productWord signChangeWord
 product-sign-first x y e =
     let g = product-tells x y e in
     let signed : Factors (signChangeWord x) y = record { first = signs-right (x .format) (x .number) (g .first); second = g .second; format = g .format } in
@@ -195,7 +195,7 @@ product-sign-first x y e =
     )
 
 pub product-sign-second : (x y : RoundBitWord) → productOf x y .outcome ≡ Done → productOf x (signChangeWord y) ≡ signChangeOf (productOf x y .word)
-unfolding productWord signChangeWord signChangeOf
+unfolding productWord signChangeWord
 product-sign-second x y e =
     let g = product-tells x y e in
     let signed : Factors x (signChangeWord y) = record { first = g .first; second = signs-right (y .format) (y .number) (g .second); format = g .format } in

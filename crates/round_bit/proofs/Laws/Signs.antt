@@ -44,7 +44,7 @@ unfolding signChangeWord roundBitCheck
 sign-change-passed w e = word-right _ _ _ (signs-right (w .format) (w .number) (round-bit-right w e))
 
 pub sum-sign-passed : (x y : RoundBitWord) → sumCheck x y ≡ Done → sumCheck x (signChangeWord y) ≡ Done
-unfolding sumCheck signChangeWord
+unfolding signChangeWord
 sum-sign-passed x y e =
     let p = both-passed (roundBitCheck x) _ e in
     let q = both-passed (roundBitCheck y) _ (p .1) in

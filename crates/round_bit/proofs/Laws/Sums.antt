@@ -38,13 +38,13 @@ record Operands (x y : RoundBitWord) : Type 0 where
   same : x .format ≡ y .format
 
 sum-check-tells : (x y : RoundBitWord) → sumCheck x y ≡ Done → Operands x y
-unfolding sumCheck roundBitCheck
+unfolding roundBitCheck
 sum-check-tells x y e =
     let p = both-right (x .format) (x .number .0) (x .number .1) (y .format) (y .number .0) (y .number .1) (refuse 4 (differ (x .format) (y .format))) e in
     record { first = p .0; second = p .1; same = same-format (x .format) (y .format) (passed Mismatch _ (p .2)) }
 
 sum-check-asks : (x y : RoundBitWord) → Operands x y → sumCheck x y ≡ Done
-unfolding sumCheck roundBitCheck
+unfolding roundBitCheck
 sum-check-asks x y p = right-both (p .first) (p .second) (rw (p .same, format-same (y .format)))
 
 -- a word that fits is its answer
@@ -80,20 +80,18 @@ module _ (x y z : RoundBitWord) (done : (sumCheck x y andThen roundBitFitted (su
       (times-plus (pos 2) (x .number .0 +ℤ pos (x .number .1)) (z .number .0 +ℤ pos (z .number .1)))
 
 pub sum-done : (x y : RoundBitWord) → sumOf x y .outcome ≡ Done → sumOf x y ≡ roundBitDone (sumWord x y)
-unfolding sumOf
 sum-done x y e = answer-is-word x y y e
 
 -- ---- closed: the word of a done answer passes its own check
 pub sum-closed : (x y : RoundBitWord) → sumOf x y .outcome ≡ Done → roundBitCheck (sumOf x y .word) ≡ Done
-unfolding sumOf
 sum-closed x y e = answer-closed x y y e (answer-operands x y y e .second .bit)
 
 pub difference-closed : (x y : RoundBitWord) → differenceOf x y .outcome ≡ Done → roundBitCheck (differenceOf x y .word) ≡ Done
-unfolding differenceOf signChangeWord
+unfolding signChangeWord
 difference-closed x y e = answer-closed x y (signChangeWord y) e (omega arith)
 
 pub to-plain-closed : (w : RoundBitWord) → toPlainOf w .outcome ≡ Done → plainCheck (toPlainOf w .word) ≡ Done
-unfolding toPlainOf toPlainWord plainFitted plainCheck roundBitCheck
+unfolding toPlainWord plainFitted plainCheck roundBitCheck
 to-plain-closed w e =
     let a = w .number .0 +ℤ pos (w .number .1) in
     let p = done-fits plainRefused (λ a. a .outcome) (λ c. refl) (roundBitCheck w) (w .format) a (plainDone (toPlainWord w)) e in
@@ -101,18 +99,17 @@ to-plain-closed w e =
     rw (p .0, fit-passes (w .format) a (p .1)) (word-right (w .format) a 0 (record { format = g .format; size = p .1; bit = omega arith }))
 
 pub from-plain-closed : (w : PlainWord) → fromPlainOf w .outcome ≡ Done → roundBitCheck (fromPlainOf w .word) ≡ Done
-unfolding fromPlainOf fromPlainWord plainCheck roundBitCheck
+unfolding fromPlainWord plainCheck roundBitCheck
 from-plain-closed w e =
     let p = done-passed roundBitRefused (λ a. a .outcome) (λ c. refl) (plainCheck w) (roundBitDone (fromPlainWord w)) e in
     rw p p
 
 -- ---- sum: the values add exactly; it is commutative digit for digit; (0,0) is neutral on both sides
 pub sum-value : (x y : RoundBitWord) → sumOf x y .outcome ≡ Done → roundBitValue (sumOf x y .word) ≡ roundBitValue x +ℤ roundBitValue y
-unfolding sumOf
 sum-value x y e = answer-value x y y e
 
 pub sum-comm : (x y : RoundBitWord) → sumCheck x y ≡ Done → sumOf x y ≡ sumOf y x
-unfolding sumOf sumWord
+unfolding sumWord
 sum-comm x y e =
     let g = sum-check-tells x y e in
     let back = sum-check-asks y x (record { first = g .second; second = g .first; same = sym (g .same) }) in
@@ -127,7 +124,7 @@ zero-passes w e =
     sum-check-asks w (roundBitWord (pos 0) 0 (w .format)) (record { first = g; second = none; same = refl })
 
 pub sum-zero : (w : RoundBitWord) → roundBitCheck w ≡ Done → sumOf w (roundBitWord (pos 0) 0 (w .format)) ≡ roundBitDone w
-unfolding sumOf sumWord roundBitCheck
+unfolding sumWord roundBitCheck
 sum-zero w e =
     let n = w .number in
     let same : sumWord w (roundBitWord (pos 0) 0 (w .format)) ≡ w = rw (and-zero-r (n .1), or-zero-r (n .1), +ℤ-idr (n .0), +ℤ-idr (n .0)) in
@@ -168,7 +165,7 @@ sum-grouped (both s t) h = rw (sum-grouped s (h .0), sum-grouped t (h .1)) (adde
 
 -- ---- -(x + y) and (-x) + (-y) have the same value, and the pair (0,0), (0,1) has not the same digits
 pub sum-sign-value : (x y : RoundBitWord) → sumOf x y .outcome ≡ Done → roundBitValue (signChangeWord (sumWord x y)) ≡ roundBitValue (sumWord (signChangeWord x) (signChangeWord y))
-unfolding sumOf sumWord signChangeWord value
+unfolding sumWord signChangeWord value
 sum-sign-value x y e =
     let g = answer-operands x y y e in
     ap (λ (z : ℤ). pos 2 *ℤ z) (added-signs (x .number) (y .number) (g .first .bit) (g .second .bit))
@@ -179,7 +176,7 @@ sum-sign-digits f e = let bit : _≡_ {A = ℕ} 0 1 = ap (λ (w : RoundBitWord).
 
 -- ---- difference: x less y, and x less x is (-1,1), value 0, for every word
 pub difference-value : (x y : RoundBitWord) → differenceOf x y .outcome ≡ Done → roundBitValue (differenceOf x y .word) +ℤ roundBitValue y ≡ roundBitValue x
-unfolding differenceOf signChangeWord value
+unfolding signChangeWord value
 difference-value x y e =
     let a = x .number .0 +ℤ pos (x .number .1) in
     let b = y .number .0 +ℤ pos (y .number .1) in
@@ -191,7 +188,7 @@ difference-value x y e =
     )
 
 pub difference-self : (w : RoundBitWord) → roundBitCheck w ≡ Done → differenceOf w w ≡ roundBitDone (roundBitWord (negsuc 0) 1 (w .format))
-unfolding differenceOf sumWord signChangeWord roundBitCheck
+unfolding sumWord signChangeWord roundBitCheck
 difference-self w e =
     let g = right (w .format) (w .number .0) (w .number .1) e in
     let c = sum-check-asks w w (record { first = g; second = g; same = refl }) in
@@ -209,13 +206,13 @@ unfolding fromPlainWord value
 from-plain-value w = rw (+ℤ-idr (w .number .0))
 
 pub from-to-plain : (w : PlainWord) → plainCheck w ≡ Done → toPlainOf (fromPlainWord w) ≡ plainDone w
-unfolding toPlainOf toPlainWord fromPlainWord plainFitted plainCheck roundBitCheck
+unfolding toPlainWord fromPlainWord plainFitted plainCheck roundBitCheck
 from-to-plain w e =
     let g = right (w .format) (w .number .0) 0 e in
     rw (e, +ℤ-idr (w .number .0), fit-passes (w .format) (w .number .0) (g .size))
 
 pub to-plain-refuses : (w : RoundBitWord) → roundBitCheck w ≡ Done → (toPlainOf w .outcome ≡ Done) ⊎ ((toPlainOf w .outcome ≡ Refused (cause 8 tt)) × (w .number .0 +ℤ pos (w .number .1) ≡ pos (2 ^ (w .format .width - 1))))
-unfolding toPlainOf toPlainWord plainFitted roundBitCheck
+unfolding toPlainWord plainFitted roundBitCheck
 to-plain-refuses w e = told (fitsWidth a (w .format .width)) refl
   where
     a : ℤ
@@ -231,5 +228,5 @@ to-plain-refuses w e = told (fitsWidth a (w .format .width)) refl
         inr (rw (e, f), carry-past (w .number .0) (w .number .1) p (g .size) (g .bit) (ltb-false (mag a) p (sym (fits-is a (w .format .width)) ∙ f)))
 
 pub to-plain-past : (w : RoundBitWord) → roundBitCheck w ≡ Done → w .number .0 +ℤ pos (w .number .1) ≡ pos (2 ^ (w .format .width - 1)) → toPlainOf w .outcome ≡ Refused (cause 8 tt)
-unfolding toPlainOf toPlainWord plainFitted
+unfolding toPlainWord plainFitted
 to-plain-past w e h = let n = w .format .width in rw (e, h, fits-is (pos (2 ^ (n - 1))) n, le-ltb (2 ^ (n - 1)) (2 ^ (n - 1)) (omega arith))

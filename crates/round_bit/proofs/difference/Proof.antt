@@ -1,6 +1,6 @@
 use mathlib.Core.Path.{_≡_, sym, _∙_}
-use Rattle.round_bit.specs.Sums.{sumCheck, sumOf, differenceOf}
-use Rattle.round_bit.specs.Cuts.{signChangeWord}
+use Rattle.round_bit.specs.Sums.{sumCheck}
+use Rattle.words.proofs.Arms.{arms}
 use Rattle.words.specs.declared.Outcome.the-variants.{Done}
 use Rattle.round_bit.proofs.Checks.{sum-passed}
 use Rattle.round_bit.proofs.Laws.Signs.{sum-sign-passed}
@@ -18,13 +18,8 @@ sum-word-requires : tie.Need-sum-word-requires
 sum-word-requires c κs =
     rw (c .sign-change-word .ensures) (sum-sign-passed (c .before .before .before .before .args .x) (c .before .before .before .before .args .y) (passed (c .before)))
 
-returns : tie.Need-returns
-unfolding differenceOf
-returns c = c .round-bit-refused .ensures ∙ rw (← c .before .before .before .before .sum-check .ensures, c .before .before .c .given .1)
-
 returns-2 : tie.Need-returns-2
-unfolding differenceOf
 returns-2 c = rw (c .round-bit-fitted .ensures, c .before .sum-word .ensures, c .before .before .sign-change-word .ensures, passed (c .before .before .before))
 
 pub difference-spec : {M : Type 1} → statement M
-difference-spec = tie.close (tie.spec (λ c κs. search needs) (λ c. search needs) (λ c κs. search needs) (λ c. search needs) sign-change-word-requires sum-word-requires (λ c κs. search needs) returns returns-2)
+difference-spec = tie.close (tie.spec (λ c κs. search needs) (λ c. search needs) (λ c κs. search needs) (λ c. search needs) sign-change-word-requires sum-word-requires (λ c κs. search needs) (λ c. search arms) returns-2)

@@ -1,7 +1,6 @@
-use Rattle.words.proofs.Formats.{answer-outcome}
+use Rattle.words.proofs.Arms.{arms}
 use Rattle.words.proofs.Laws.{round-bit-right}
 use mathlib.Core.Path.{sym, _∙_}
-use Rattle.round_bit.specs.Products.{productCheck}
 use borrow.Author.Needs.{needs}
 use Rattle.round_bit.proofs.product_check.Statement.{statement}
 use Rattle.round_bit.proofs.product_check.Tie as tie
@@ -10,19 +9,5 @@ product-format-requires : tie.Need-product-format-requires
 product-format-requires c κs =
     round-bit-right (c .before .before .before .before .before .before .args .x) (sym (c .before .before .before .before .before .round-bit-check .ensures) ∙ c .before .before .before .enum-told .given .1) .format .narrow
 
-returns : tie.Need-returns
-unfolding productCheck
-returns c = rw (← c .before .before .before .round-bit-check .ensures, c .before .c .given .1)
-
-returns-2 : tie.Need-returns-2
-unfolding productCheck
-returns-2 c =
-    rw (← c .before .before .before .before .before .before .round-bit-check .ensures, c .before .before .before .before .enum-told .given .1, ← c .before .before .before .round-bit-check2 .ensures, c .before .c2 .given .1)
-
-returns-3 : tie.Need-returns-3
-unfolding productCheck
-returns-3 c =
-    rw (← c .before .before .before .before .before .before .round-bit-check .ensures, c .before .before .before .before .enum-told .given .1, ← c .before .before .before .round-bit-check2 .ensures, c .before .enum-told2 .given .1, c .product-format .ensures, answer-outcome)
-
 pub product-check-spec : {M : Type 1} → statement M
-product-check-spec = tie.close (tie.spec (λ c κs. search needs) (λ c. search needs) (λ c. search needs) (λ c κs. search needs) (λ c. search needs) (λ c. search needs) product-format-requires returns returns-2 returns-3)
+product-check-spec = tie.close (tie.spec (λ c κs. search needs) (λ c. search needs) (λ c. search needs) (λ c κs. search needs) (λ c. search needs) (λ c. search needs) product-format-requires (λ c. search arms) (λ c. search arms) (λ c. search arms))

@@ -1,15 +1,7 @@
-use Rattle.running_sum.specs.Steps.{sumCheck}
+use Rattle.words.proofs.Arms.{arms}
 use borrow.Author.Needs.{needs}
 use Rattle.running_sum.proofs.sum_check.Statement.{statement}
 use Rattle.running_sum.proofs.sum_check.Tie as tie
 
-returns : tie.Need-returns
-unfolding sumCheck
-returns c = rw (← c .before .before .before .round-bit-check .ensures, c .before .c .given .1)
-
-returns-2 : tie.Need-returns-2
-unfolding sumCheck
-returns-2 c = rw (← c .before .before .before .round-bit-check .ensures, c .before .enum-told .given .1, c .depth-check .ensures)
-
 pub sum-check-spec : {M : Type 1} → statement M
-sum-check-spec = tie.close (tie.spec (λ c κs. search needs) (λ c. search needs) (λ c. search needs) (λ c κs. search needs) returns returns-2)
+sum-check-spec = tie.close (tie.spec (λ c κs. search needs) (λ c. search needs) (λ c. search needs) (λ c κs. search needs) (λ c. search arms) (λ c. search arms))

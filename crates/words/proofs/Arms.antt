@@ -1,0 +1,45 @@
+-- The arms of a match on the outcome of a check, each at its own goal: `search arms` finds in what the arm was handed what the check
+-- ensures, how its outcome fell and what was answered. Assumes nothing.
+use mathlib.Core.Path.{_≡_, sym, _∙_}
+use mathlib.Core.Bool.{Bool}
+use Rattle.words.specs.Refusals.{refuseFor, _orElse_, after}
+use Rattle.words.specs.Formats.{formatAnswer}
+use Rattle.words.specs.declared.Cause.{Cause}
+use Rattle.words.specs.declared.Outcome.{Outcome}
+use Rattle.words.specs.declared.Outcome.the-variants.{Done, Refused}
+use Rattle.words.specs.declared.Format.{Format}
+use Rattle.words.specs.declared.FormatAnswer.{FormatAnswer}
+use Rattle.words.proofs.Formats.{answer-outcome}
+
+-- ---- o is the outcome of a check that is defined as p: what is asked after it, and what is answered
+pub passing : (o p : Outcome) → o ≡ p → o ≡ Done → p ≡ Done
+passing o p e f = sym e ∙ f
+
+pub refusing : {A : Type 0} (refused : Cause → A) (o p : Outcome) (c : Cause) (a r : A) → o ≡ p → o ≡ Refused c → r ≡ refused c → r ≡ after refused p a
+refusing refused o p c a r e f g = g ∙ rw (← e, f)
+
+pub answering : {A W : Type 0} (refused : Cause → A) (done : W → A) (o p : Outcome) (w v : W) (r : A) → o ≡ p → o ≡ Done → w ≡ v → r ≡ done w → r ≡ after refused p (done v)
+answering refused done o p w v r e f g h = h ∙ rw (← e, f, g)
+
+-- the same where one function makes the answer of both arms, and of a refusal none but its cause counts
+pub refused-answer : {A W : Type 0} (answer : Outcome → W → A) (same : (c : Cause) (w v : W) → answer (Refused c) w ≡ answer (Refused c) v) (o p : Outcome) (c : Cause) (w v : W) (r : A) → o ≡ p → o ≡ Refused c → r ≡ answer (Refused c) w → r ≡ answer p v
+refused-answer answer same o p c w v r e f g = g ∙ same c w v ∙ rw (← e, f)
+
+pub done-answer : {A W : Type 0} (answer : Outcome → W → A) (o p : Outcome) (w v : W) (r : A) → o ≡ p → o ≡ Done → w ≡ v → r ≡ answer Done w → r ≡ answer p v
+done-answer answer o p w v r e f g h = h ∙ rw (← e, f, g)
+
+-- ---- the same of one check behind another
+pub first-refusing : (o p q : Outcome) (c : Cause) → o ≡ p → o ≡ Refused c → Refused c ≡ (p orElse q)
+first-refusing o p q c e f = rw (← e, f)
+
+pub first-passing : (o p q r : Outcome) → o ≡ p → o ≡ Done → r ≡ q → r ≡ (p orElse q)
+first-passing o p q r e f g = g ∙ rw (← e, f)
+
+-- ---- and of an outcome that comes with a format, and one that is given by a test
+pub format-told : (o : Outcome) (f : Format) (a : FormatAnswer) → a ≡ formatAnswer o f → a .outcome ≡ o
+format-told o f a e = rw (e, answer-outcome)
+
+pub test-told : (c : Cause) (s t : Bool) (r : Outcome) → r ≡ refuseFor c s → s ≡ t → r ≡ refuseFor c t
+test-told c s t r e f = rw (e, f)
+
+pub ruleset arms = (passing, refusing, first-refusing, first-passing, format-told, test-told)
