@@ -152,8 +152,8 @@ fn cuts() {
     print_cut(b"P6 cut", round_bit(11, -718, 0), 2);
     print_round_bit_answer(b"P6 rest", round_bit::rest(round_bit(11, -718, 0), 2));
     print_digit_text(b"P6 text", round_bit(11, -718, 0));
-    print_cut(b"P7 by 1", round_bit(3, 3, 0), 1);
-    print_cut(b"P7 by 2", round_bit(3, 3, 0), 2);
+    print_cut(b"P7 by 1", round_bit(3, 0, 0), 1);
+    print_cut(b"P7 by 2", round_bit(3, 0, 0), 2);
     print_round_bit_answer(b"P8", round_bit::widen(round_bit(4, 5, 1), 2));
 }
 

@@ -1,20 +1,14 @@
--- Document 01's own digit texts, computed from the definitions.
+-- Document 01's digit texts that are read back, computed from the definitions.
 use mathlib.Core.Path.{_≡_, refl}
 use mathlib.Core.List.{List, [], _∷_}
-use lib.IntN.{pos, negsuc}
-use Rattle.integers.specs.Numbers.{floorBy, lowest, digit}
+use lib.IntN.{pos}
 use Rattle.integers.specs.Lists.{firstBad}
 use Rattle.words.specs.Refusals.{cause}
 use Rattle.words.specs.Formats.{format}
 use Rattle.words.specs.RoundBit.{roundBitWord}
 use Rattle.words.specs.declared.Outcome.the-variants.{Done, Refused}
-use Rattle.digit_text.specs.Digits.{plus, none, minus, signedDigit, byteOf, digitOf, byteAt, text, textValue, signBefore}
+use Rattle.digit_text.specs.Digits.{plus, none, minus, digitOf, textValue, signBefore}
 use Rattle.digit_text.specs.Reading.{goodAt, firstFault, faulty, readCheck, readRound, readWord, readAnswer, readOf}
-
--- P6: "Digit text before: `-+-0+0-0+-0`."
-text-718 : text (roundBitWord (negsuc 717) 0 (format 11 (pos 0))) ≡ minus ∷ plus ∷ minus ∷ none ∷ plus ∷ none ∷ minus ∷ none ∷ plus ∷ minus ∷ none ∷ []
-unfolding floorBy lowest digit signedDigit byteOf byteAt text
-text-718 = refl
 
 -- "Digit text `+0+` gives 9; `+-` with unit 0 reads as (1,0), width 2." "`0+` is (0,1)" "All zeros reads as (0,0)"
 readings : (readOf (plus ∷ none ∷ plus ∷ []) (pos 0) ≡ readAnswer (Refused (cause 9 tt)) (roundBitWord (pos 0) 0 (format 2 (pos 0))))

@@ -5,6 +5,7 @@ pub mod Even
 pub mod Width
 pub mod Halves
 pub mod Machine
+pub mod Widened
 pub mod Lists
 pub mod Bytes
 pub mod Parts

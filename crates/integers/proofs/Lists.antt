@@ -80,6 +80,19 @@ module _ {A : Type 0} where
       let g = h zero in
       simp length-append (omega arith)
 
+  pub flat-most : (w n : ℕ) (f : ℕ → List A) → ((k : ℕ) → k < n → length (f k) ≤ w) → length (flat n f) ≤ w * n
+  flat-most w zero f h = omega arith
+  flat-most w (suc n) f h =
+      let e = flat-most w n (λ k. f (suc k)) (λ k l. h (suc k) (omega arith)) in
+      let g = h zero (omega arith) in
+      simp length-append (omega arith)
+
+  -- the parts before k and part k are the front of the whole
+  pub flat-grows : (k n : ℕ) (f : ℕ → List A) → k < n → length (flat k f) + length (f k) ≤ length (flat n f)
+  flat-grows k zero f h = absurd (not-suc-le-zero h)
+  flat-grows zero (suc n) f h = simp length-append (omega arith)
+  flat-grows (suc k) (suc n) f h = simp length-append (omega (arith, flat-grows k n (λ i. f (suc i)) (le-of-suc-le-suc h)))
+
   -- a turn: l is d with n parts stored from s on, and m is l with the next part stored behind them
   pub flat-store : (w : ℕ) (d l m : List A) (s t n : ℕ) (f : ℕ → List A) → ((k : ℕ) → length (f k) ≡ w) → t ≡ s + w * n → l ≡ sets d s (flat n f) → m ≡ sets l t (f n) → m ≡ sets d s (flat (n + 1) f)
   flat-store w d l m s t n f h e q r =

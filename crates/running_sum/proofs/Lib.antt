@@ -1,4 +1,3 @@
-mod Examples
 pub mod Conserved
 pub mod Demand3
 pub mod Links
