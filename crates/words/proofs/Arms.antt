@@ -1,10 +1,17 @@
 -- The arms of a match on the outcome of a check, each at its own goal: `search arms` finds in what the arm was handed what the check
 -- ensures, how its outcome fell and what was answered. Assumes nothing.
+use Prim.Native.Nat.{ℕ}
 use mathlib.Core.Path.{_≡_, sym, _∙_}
-use mathlib.Core.Bool.{Bool}
-use Rattle.words.specs.Refusals.{refuseFor, _orElse_, after}
+use mathlib.Core.Bool.{Bool, true, false}
+use lib.IntN.{ℤ}
+use mir.Syntax.{w64}
+use mir.Val.{SFits, toZ, ofZ}
+use mir.Facts.{toZ-ofZ}
+use Rattle.words.specs.Words.{outside}
+use Rattle.words.specs.Refusals.{refuseFor, refuse, _orElse_, wordCheck, after}
 use Rattle.words.specs.Formats.{formatAnswer}
 use Rattle.words.specs.declared.Cause.{Cause}
+use Rattle.words.specs.declared.Cause.the-variants.{NumberPast}
 use Rattle.words.specs.declared.Outcome.{Outcome}
 use Rattle.words.specs.declared.Outcome.the-variants.{Done, Refused}
 use Rattle.words.specs.declared.Format.{Format}
@@ -41,5 +48,15 @@ format-told o f a e = rw (e, answer-outcome)
 
 pub test-told : (c : Cause) (s t : Bool) (r : Outcome) → r ≡ refuseFor c s → s ≡ t → r ≡ refuseFor c t
 test-told c s t r e f = rw (e, f)
+
+-- ---- and of a number that came as a machine's: it is tested as itself
+pub number-told : (f : Format) (x : ℤ) (r : ℕ) (o : Outcome) → SFits w64 x → o ≡ wordCheck f (toZ w64 (ofZ w64 x)) r → o ≡ wordCheck f x r
+number-told f x r o s e = e ∙ rw (toZ-ofZ s)
+
+pub fit-refusing : {A : Type 0} (refused : Cause → A) (f : Format) (x : ℤ) (b : Bool) (a r : A) → SFits w64 x → b ≡ outside f (toZ w64 (ofZ w64 x)) → b ≡ true → r ≡ refused NumberPast → r ≡ after refused (refuse 8 (outside f x)) a
+fit-refusing refused f x b a r s e t g = g ∙ rw (← (rw (toZ-ofZ s) at e), t)
+
+pub fit-answering : {A : Type 0} (refused : Cause → A) (f : Format) (x : ℤ) (b : Bool) (a r : A) → SFits w64 x → b ≡ outside f (toZ w64 (ofZ w64 x)) → b ≡ false → r ≡ a → r ≡ after refused (refuse 8 (outside f x)) a
+fit-answering refused f x b a r s e t g = g ∙ rw (← (rw (toZ-ofZ s) at e), t)
 
 pub ruleset arms = (passing, refusing, first-refusing, first-passing, format-told, test-told)

@@ -1,25 +1,16 @@
-use borrow.Author.Needs.{needs}
-use mathlib.Core.Path.{_∙_}
-use mir.Syntax.{w64}
-use mir.Val.{SFits}
-use mir.Facts.{toZ-ofZ}
 use Rattle.words.specs.RoundBit.{roundBitFitted}
+use Rattle.words.proofs.Arms.{fit-refusing, fit-answering}
+use borrow.Author.Needs.{needs}
 use Rattle.words.proofs.round_bit_fitted.Statement.{statement}
 use Rattle.words.proofs.round_bit_fitted.Tie as tie
 
 returns : tie.Need-returns
 unfolding roundBitFitted
-returns c =
-    let x : SFits w64 (c .before .before .before .before .args .w .number .0) = search needs in
-    let o = c .before .before .outside .ensures in
-    c .round-bit-refused .ensures ∙ rw (← (rw (toZ-ofZ x) at o), c .before .if1 .taken)
+returns c = search (fit-refusing, needs)
 
 returns-2 : tie.Need-returns-2
 unfolding roundBitFitted
-returns-2 c =
-    let x : SFits w64 (c .before .before .before .before .args .w .number .0) = search needs in
-    let o = c .before .before .outside .ensures in
-    c .round-bit-done .ensures ∙ rw (← (rw (toZ-ofZ x) at o), c .before .if1 .left)
+returns-2 c = search (fit-answering, needs)
 
 pub round-bit-fitted-spec : {M : Type 1} → statement M
 round-bit-fitted-spec = tie.close (tie.spec (λ c κs. search needs) (λ c κs. search needs) (λ c κs. search needs) returns returns-2)
