@@ -334,8 +334,7 @@ pub fn round_bit_done(w: RoundBitWord) -> RoundBitAnswer
 pub fn round_bit_fitted(w: RoundBitWord) -> RoundBitAnswer
     ensures { λ r. ⌜ r ≡ roundBitFitted w ⌝ }
 {
-    let number = w.number.0;
-    if outside(w.format, number) {
+    if outside(w.format, w.number.0) {
         round_bit_refused(Cause::NumberPast)
     } else {
         round_bit_done(w)
