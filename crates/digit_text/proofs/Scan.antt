@@ -14,7 +14,8 @@ use lib.Pow.{pow-add, pow-mono}
 use lib.Seq.{take-suc}
 use borrow.Author.Tests.{ltb-false}
 use Rattle.integers.specs.Numbers.{digit}
-use Rattle.integers.proofs.Kit.{up, down, ints, plus-law, minus-law, times-law, abs-law, one-zero, plus-times, times-assoc}
+use Rattle.integers.proofs.Kit.{up, down, ints, plus-law, minus-law, times-law, abs-law, one-zero}
+use Rattle.integers.proofs.Times.{plus-times, times-assoc}
 use Rattle.words.specs.Words.{badWidth, badUnit}
 use Rattle.words.specs.Refusals.{refuseFor, _orElse_, formatCheck}
 use Rattle.words.specs.Formats.{format}

@@ -2,15 +2,17 @@
 -- which one is 0. Each operation has one law on these two, and orders, equality, tests and machine ranges are rules, so that
 -- `omega (ints, plus-law a b, times-law c d)` proves a fact of ℤ as `omega arith` proves one of ℕ. A product is exact in its monomials:
 -- hand over a law times a factor, `ap (λ (k : ℕ). k * m) (plus-law a b)`. Assumes nothing.
-use mathlib.Core.Path.{_≡_, refl, sym, ap, subst}
+use mathlib.Core.Path.{_≡_, refl, sym, ap, _∙_, subst}
 use mathlib.Core.Bool.{Bool, true, false, not, cond}
 use Prim.Native.Nat.{ℕ, zero, suc, _+_, _*_, _-_, _^_, _<_, _≤_, max, min}
+use native.Mathlib.Nat.{add-zero, zero-add}
 use native.Mathlib.Omega.{arith}
-use lib.Dec.{T, ltb, leb→le, ltb→lt, nltb→le, nleb→lt, le→leb, lt→ltb}
+use lib.Dec.{T, leb, ltb, leb→le, ltb→lt, nltb→le, le→leb, lt→ltb, leb·suc-suc}
 use lib.IntN.{ℤ, pos, negsuc, negℤ, natAbs, subℕ, _+ℤ_, _-ℤ_, _*ℤ_}
 use lib.Signed.{mag, ltZ, leZ, _≤ℤ_, _<ℤ_}
 use mir.Syntax.{Width}
 use mir.Val.{SFits, hbits}
+use borrow.Author.Tests.{ltb-true, ltb-false, leb-true, leb-false, lt-ltb, le-ltb, le-leb, lt-leb}
 
 -- z = up z - down z
 abbrev pub up : ℤ → ℕ
@@ -61,7 +63,7 @@ pub one-zero : (z : ℤ) → min (up z) (down z) ≡ 0
 one-zero (pos n) = omega arith
 one-zero (negsuc n) = omega arith
 
--- ---- equality and the orders, both ways
+-- ---- equality and the orders, both ways: an order's test is that of the halves
 pub eq-rule : {a b : ℤ} → a ≡ b → up a + down b ≡ up b + down a
 eq-rule {a} e = subst (λ (z : ℤ). up a + down z ≡ up z + down a) e refl
 
@@ -71,41 +73,29 @@ by-eq (pos a) (negsuc b) h = absurd (omega arith)
 by-eq (negsuc a) (pos b) h = absurd (omega arith)
 by-eq (negsuc a) (negsuc b) h = ap negsuc (omega arith)
 
-leZ-up : (a b : ℤ) → T (leZ a b) → up a + down b ≤ up b + down a
-leZ-up (pos a) (pos b) t = omega (arith, leb→le)
-leZ-up (pos a) (negsuc b) t = absurd t
-leZ-up (negsuc a) (pos b) t = omega arith
-leZ-up (negsuc a) (negsuc b) t = omega (arith, leb→le)
+leZ-is : (a b : ℤ) → leZ a b ≡ leb (up a + down b) (up b + down a)
+leZ-is (pos a) (pos b) = rw (add-zero a, add-zero b)
+leZ-is (pos a) (negsuc b) = sym (lt-leb (a + suc b) 0 (omega arith))
+leZ-is (negsuc a) (pos b) = sym (le-leb 0 (b + suc a) (omega arith))
+leZ-is (negsuc a) (negsuc b) = rw (zero-add (suc b), zero-add (suc a), leb·suc-suc b a)
 
-ltZ-up : (a b : ℤ) → T (ltZ a b) → up a + down b < up b + down a
-ltZ-up (pos a) (pos b) t = omega (arith, ltb→lt)
-ltZ-up (pos a) (negsuc b) t = absurd t
-ltZ-up (negsuc a) (pos b) t = omega arith
-ltZ-up (negsuc a) (negsuc b) t = omega (arith, ltb→lt)
-
-by-leZ : (a b : ℤ) → up a + down b ≤ up b + down a → T (leZ a b)
-by-leZ (pos a) (pos b) h = le→leb a b (omega arith)
-by-leZ (pos a) (negsuc b) h = absurd (omega arith)
-by-leZ (negsuc a) (pos b) h = tt
-by-leZ (negsuc a) (negsuc b) h = le→leb b a (omega arith)
-
-by-ltZ : (a b : ℤ) → up a + down b < up b + down a → T (ltZ a b)
-by-ltZ (pos a) (pos b) h = lt→ltb a b (omega arith)
-by-ltZ (pos a) (negsuc b) h = absurd (omega arith)
-by-ltZ (negsuc a) (pos b) h = tt
-by-ltZ (negsuc a) (negsuc b) h = lt→ltb b a (omega arith)
+ltZ-is : (a b : ℤ) → ltZ a b ≡ ltb (up a + down b) (up b + down a)
+ltZ-is (pos a) (pos b) = rw (add-zero a, add-zero b)
+ltZ-is (pos a) (negsuc b) = sym (le-ltb (a + suc b) 0 (omega arith))
+ltZ-is (negsuc a) (pos b) = sym (lt-ltb 0 (b + suc a) (omega arith))
+ltZ-is (negsuc a) (negsuc b) = rw (zero-add (suc b), zero-add (suc a), leb·suc-suc (suc b) a)
 
 pub le-rule : {a b : ℤ} → a ≤ℤ b → up a + down b ≤ up b + down a
-le-rule {a} {b} h = leZ-up a b (h .le)
+le-rule {a} {b} h = leb→le _ _ (rw (leZ-is a b) at (h .le))
 
 pub by-le : (a b : ℤ) → up a + down b ≤ up b + down a → a ≤ℤ b
-by-le a b h = record { le = by-leZ a b h }
+by-le a b h = record { le = rw (leZ-is a b) (le→leb _ _ h) }
 
 pub lt-rule : {a b : ℤ} → a <ℤ b → up a + down b < up b + down a
-lt-rule {a} {b} h = ltZ-up a b (h .lt)
+lt-rule {a} {b} h = ltb→lt _ _ (rw (ltZ-is a b) at (h .lt))
 
 pub by-lt : (a b : ℤ) → up a + down b < up b + down a → a <ℤ b
-by-lt a b h = record { lt = by-ltZ a b h }
+by-lt a b h = record { lt = rw (ltZ-is a b) (lt→ltb _ _ h) }
 
 -- ---- tests, both ways and both answers
 pub is-true : (t : Bool) → T t → t ≡ true
@@ -116,41 +106,29 @@ pub is-false : (t : Bool) → (T t → ⊥) → t ≡ false
 is-false true h = absurd (h tt)
 is-false false h = refl
 
-lt-from-not : (a b : ℤ) → T (not (leZ a b)) → up b + down a < up a + down b
-lt-from-not (pos a) (pos b) t = omega (arith, nleb→lt)
-lt-from-not (pos a) (negsuc b) t = omega arith
-lt-from-not (negsuc a) (pos b) t = absurd t
-lt-from-not (negsuc a) (negsuc b) t = omega (arith, nleb→lt)
-
-le-from-not : (a b : ℤ) → T (not (ltZ a b)) → up b + down a ≤ up a + down b
-le-from-not (pos a) (pos b) t = omega (arith, nltb→le)
-le-from-not (pos a) (negsuc b) t = omega arith
-le-from-not (negsuc a) (pos b) t = absurd t
-le-from-not (negsuc a) (negsuc b) t = omega (arith, nltb→le)
-
 pub le-true : (a b : ℤ) → leZ a b ≡ true → up a + down b ≤ up b + down a
-le-true a b e = leZ-up a b (subst T (sym e) tt)
+le-true a b e = leb-true _ _ (sym (leZ-is a b) ∙ e)
 
 pub le-false : (a b : ℤ) → leZ a b ≡ false → up b + down a < up a + down b
-le-false a b e = lt-from-not a b (subst (λ (t : Bool). T (not t)) (sym e) tt)
+le-false a b e = leb-false _ _ (sym (leZ-is a b) ∙ e)
 
 pub lt-true : (a b : ℤ) → ltZ a b ≡ true → up a + down b < up b + down a
-lt-true a b e = ltZ-up a b (subst T (sym e) tt)
+lt-true a b e = ltb-true _ _ (sym (ltZ-is a b) ∙ e)
 
 pub lt-false : (a b : ℤ) → ltZ a b ≡ false → up b + down a ≤ up a + down b
-lt-false a b e = le-from-not a b (subst (λ (t : Bool). T (not t)) (sym e) tt)
+lt-false a b e = ltb-false _ _ (sym (ltZ-is a b) ∙ e)
 
 pub by-le-true : (a b : ℤ) → up a + down b ≤ up b + down a → leZ a b ≡ true
-by-le-true a b h = is-true (leZ a b) (by-leZ a b h)
+by-le-true a b h = leZ-is a b ∙ le-leb _ _ h
 
 pub by-le-false : (a b : ℤ) → up b + down a < up a + down b → leZ a b ≡ false
-by-le-false a b h = is-false (leZ a b) (λ t. let k = leZ-up a b t in omega arith)
+by-le-false a b h = leZ-is a b ∙ lt-leb _ _ h
 
 pub by-lt-true : (a b : ℤ) → up a + down b < up b + down a → ltZ a b ≡ true
-by-lt-true a b h = is-true (ltZ a b) (by-ltZ a b h)
+by-lt-true a b h = ltZ-is a b ∙ lt-ltb _ _ h
 
 pub by-lt-false : (a b : ℤ) → up b + down a ≤ up a + down b → ltZ a b ≡ false
-by-lt-false a b h = is-false (ltZ a b) (λ t. let k = ltZ-up a b t in omega arith)
+by-lt-false a b h = ltZ-is a b ∙ le-ltb _ _ h
 
 -- ---- a size below a bound is a range: -p ≤ z < p. Each side is one statement, since `omega` applies one rule to a hypothesis
 pub size-range : (p : ℕ) (z : ℤ) → mag z < p → max (up z + 1) (down z) ≤ p
@@ -209,32 +187,3 @@ pub ruleset ints = (
   by-le-true,
   by-le-false,
 )
-
--- ---- two laws of the product that the library of ℤ lacks
-pub plus-times : (a b c : ℤ) → (a +ℤ b) *ℤ c ≡ (a *ℤ c) +ℤ (b *ℤ c)
-plus-times a b c =
-    omega (
-      ints,
-      times-law (a +ℤ b) c,
-      times-law a c,
-      times-law b c,
-      plus-law (a *ℤ c) (b *ℤ c),
-      ap (λ (k : ℕ). k * up c) (plus-law a b),
-      ap (λ (k : ℕ). k * down c) (plus-law a b),
-    )
-
-pub times-assoc : (a b c : ℤ) → (a *ℤ b) *ℤ c ≡ a *ℤ (b *ℤ c)
-times-assoc a b c =
-    omega (
-      ints,
-      times-law (a *ℤ b) c,
-      times-law a (b *ℤ c),
-      ap (λ (k : ℕ). k * up c) (times-law a b .0),
-      ap (λ (k : ℕ). k * down c) (times-law a b .0),
-      ap (λ (k : ℕ). k * up c) (times-law a b .1),
-      ap (λ (k : ℕ). k * down c) (times-law a b .1),
-      ap (λ (k : ℕ). up a * k) (times-law b c .0),
-      ap (λ (k : ℕ). down a * k) (times-law b c .0),
-      ap (λ (k : ℕ). up a * k) (times-law b c .1),
-      ap (λ (k : ℕ). down a * k) (times-law b c .1),
-    )

@@ -1,4 +1,5 @@
 pub mod Kit
+pub mod Times
 pub mod Floor
 pub mod Digits
 pub mod Even

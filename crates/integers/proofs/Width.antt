@@ -1,18 +1,18 @@
 -- Laws of "x fits n digits", at every width: what fits, and that sums and products of what fits stay inside an i64. Assumes nothing.
-use mathlib.Core.Path.{_≡_, refl, sym, ap, _∙_, subst}
+use mathlib.Core.Path.{_≡_, refl, sym, ap, _∙_}
 use mathlib.Core.Bool.{Bool, true, false, _&&_}
 use Prim.Native.Nat.{ℕ, zero, suc, _+_, _*_, _-_, _^_, _<_, _≤_, max}
 use native.Mathlib.Omega.{arith}
 use native.Mathlib.Nat.{lt-of-lt-of-le, mul-le-mul, mul-le-mul-left, mul-le-mul-right}
 use lib.Dec.{ltb}
 use lib.Pow.{pow-pos, pow-add, pow-mono}
-use lib.IntN.{ℤ, pos, negsuc, negℤ, _+ℤ_, _-ℤ_, _*ℤ_, *ℤ-comm}
+use lib.IntN.{ℤ, pos, negsuc, negℤ, _+ℤ_, _-ℤ_, _*ℤ_}
 use lib.Signed.{mag, leZ}
 use mir.Syntax.{w64}
 use mir.Val.{SFits}
 use borrow.Author.Tests.{ltb-true, ltb-false}
 use Rattle.integers.specs.Numbers.{lies, eqZ, fitsWidth, floorBy, turned, lowDigits}
-use Rattle.integers.proofs.Kit.{up, down, ints, plus-law, minus-law, neg-law, times-law, one-zero, size-range, by-size, by-le-true, by-le-false, plus-times}
+use Rattle.integers.proofs.Kit.{up, down, ints, plus-law, minus-law, neg-law, times-law, one-zero, size-range, by-size, by-le-true}
 use Rattle.integers.proofs.Floor.{turned-size, floor-range}
 use Rattle.integers.proofs.Digits.{low-range}
 
@@ -161,16 +161,6 @@ times-bound (pos a) (pos b) p q h k = omega (arith, mul-le-mul h k)
 times-bound (pos a) (negsuc b) p q h k = omega (arith, times-law (pos a) (negsuc b), mul-le-mul h k)
 times-bound (negsuc a) (pos b) p q h k = omega (arith, times-law (negsuc a) (pos b), mul-le-mul h k)
 times-bound (negsuc a) (negsuc b) p q h k = omega (arith, mul-le-mul h k)
-
--- ---- a factor on the left of a sum, and a sign on either factor
-pub times-plus : (a b c : ℤ) → a *ℤ (b +ℤ c) ≡ (a *ℤ b) +ℤ (a *ℤ c)
-times-plus a b c = rw (*ℤ-comm a (b +ℤ c), plus-times b c a, *ℤ-comm b a, *ℤ-comm c a)
-
-pub neg-times : (a b : ℤ) → negℤ a *ℤ b ≡ negℤ (a *ℤ b)
-neg-times a b = omega (ints, rw (neg-law a .0, neg-law a .1) at (times-law (negℤ a) b), times-law a b, neg-law (a *ℤ b))
-
-pub times-neg : (a b : ℤ) → a *ℤ negℤ b ≡ negℤ (a *ℤ b)
-times-neg a b = rw (*ℤ-comm a (negℤ b), neg-times b a, *ℤ-comm b a)
 
 -- ---- a number of a size below p and a carry: what is no more below p is p itself
 pub carry-past : (a : ℤ) (t p : ℕ) → mag a < p → t ≤ 1 → p ≤ mag (a +ℤ pos t) → a +ℤ pos t ≡ pos p

@@ -11,7 +11,8 @@ use lib.ListN.{length, take, drop, length-append, length-drop, take-append-drop}
 use lib.Pow.{pow-add}
 use lib.Signed.{mag}
 use Rattle.integers.specs.Numbers.{floorBy, digit, digitsBelow}
-use Rattle.integers.proofs.Kit.{up, down, ints, plus-law, minus-law, neg-law, times-law, plus-times, times-assoc, size-range, by-size, by-abs}
+use Rattle.integers.proofs.Kit.{up, down, ints, plus-law, minus-law, neg-law, times-law, size-range, by-size, by-abs}
+use Rattle.integers.proofs.Times.{plus-times, times-assoc}
 use Rattle.integers.proofs.Floor.{floor-only}
 use Rattle.integers.proofs.Digits.{digit-le, below-law, below-more, below-range, both-bits, split-digit}
 use Rattle.words.specs.declared.RoundBit.{RoundBit}

@@ -6,7 +6,8 @@ use mathlib.Core.Path.{_≡_, refl, sym, ap, _∙_}
 use lib.Pow.{pow-pos, suc-ones}
 use lib.IntN.{ℤ, pos, negℤ, natAbs, _+ℤ_, _-ℤ_, _*ℤ_}
 use Rattle.integers.specs.Numbers.{turned, floorBy, lowest, digit, digitsBelow, anyBelow, lowDigits}
-use Rattle.integers.proofs.Kit.{up, down, ints, plus-law, minus-law, neg-law, times-law, times-assoc, size-range, by-abs, abs-range, abs-law, apart, abs-apart}
+use Rattle.integers.proofs.Kit.{up, down, ints, plus-law, minus-law, neg-law, times-law, size-range, by-abs, abs-range, abs-law, apart, abs-apart}
+use Rattle.integers.proofs.Times.{times-assoc}
 use Rattle.integers.proofs.Floor.{floor-floor, floor-none, floor-turned, floor-widened, turned-law}
 use Rattle.integers.proofs.Digits.{digit-le, digit-floor, digit-turned, digit-widened, below-law, low-range, floor-low-digits, lowest-evened}
 use Rattle.integers.proofs.Even.{even-bit, even-plain, even-rounds}

@@ -6,8 +6,8 @@ use mathlib.Core.Bool.{Bool, true, false}
 use lib.Bits.{bitAnd, or-lt, or-add-and, and-le-l, and-le-r, and-comm}
 use lib.IntN.{ℤ, pos, negℤ, _+ℤ_, _*ℤ_, +ℤ-assoc, +ℤ-comm, *ℤ-comm, negℤ-negℤ}
 use lib.Signed.{mag}
-use Rattle.integers.proofs.Kit.{plus-times, times-assoc}
-use Rattle.integers.proofs.Width.{product-size, times-plus, neg-times, times-neg}
+use Rattle.integers.proofs.Times.{plus-times, times-assoc, times-plus, neg-times, times-neg}
+use Rattle.integers.proofs.Width.{product-size}
 use Rattle.words.specs.Words.{value}
 use Rattle.words.specs.Formats.{answerCheck}
 use Rattle.words.specs.RoundBit.{roundBitValue, roundBitCheck, roundBitRefused, roundBitDone}

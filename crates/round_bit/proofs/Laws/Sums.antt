@@ -11,7 +11,8 @@ use lib.IntN.{ℤ, pos, negsuc, _+ℤ_, _*ℤ_, +ℤ-idr, -ℤ-+ℤ-cancel}
 use borrow.Author.Tests.{ltb-false, le-ltb}
 use Rattle.integers.specs.Numbers.{fitsWidth}
 use Rattle.integers.proofs.Kit.{ints, plus-law}
-use Rattle.integers.proofs.Width.{times-plus, times-neg, fits-is, carry-past}
+use Rattle.integers.proofs.Width.{fits-is, carry-past}
+use Rattle.integers.proofs.Times.{times-plus, times-neg}
 use Rattle.words.specs.Words.{value}
 use Rattle.words.specs.Refusals.{cause, refuse, differ}
 use Rattle.words.specs.Formats.{format}

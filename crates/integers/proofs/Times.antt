@@ -1,0 +1,43 @@
+-- Laws of the product that the library of ℤ lacks. Assumes nothing.
+use mathlib.Core.Path.{_≡_, ap}
+use Prim.Native.Nat.{ℕ, _*_}
+use lib.IntN.{ℤ, negℤ, _+ℤ_, _*ℤ_, *ℤ-comm}
+use Rattle.integers.proofs.Kit.{up, down, ints, plus-law, neg-law, times-law}
+
+pub plus-times : (a b c : ℤ) → (a +ℤ b) *ℤ c ≡ (a *ℤ c) +ℤ (b *ℤ c)
+plus-times a b c =
+    omega (
+      ints,
+      times-law (a +ℤ b) c,
+      times-law a c,
+      times-law b c,
+      plus-law (a *ℤ c) (b *ℤ c),
+      ap (λ (k : ℕ). k * up c) (plus-law a b),
+      ap (λ (k : ℕ). k * down c) (plus-law a b),
+    )
+
+pub times-assoc : (a b c : ℤ) → (a *ℤ b) *ℤ c ≡ a *ℤ (b *ℤ c)
+times-assoc a b c =
+    omega (
+      ints,
+      times-law (a *ℤ b) c,
+      times-law a (b *ℤ c),
+      ap (λ (k : ℕ). k * up c) (times-law a b .0),
+      ap (λ (k : ℕ). k * down c) (times-law a b .0),
+      ap (λ (k : ℕ). k * up c) (times-law a b .1),
+      ap (λ (k : ℕ). k * down c) (times-law a b .1),
+      ap (λ (k : ℕ). up a * k) (times-law b c .0),
+      ap (λ (k : ℕ). down a * k) (times-law b c .0),
+      ap (λ (k : ℕ). up a * k) (times-law b c .1),
+      ap (λ (k : ℕ). down a * k) (times-law b c .1),
+    )
+
+-- ---- a factor on the left of a sum, and a sign on either factor
+pub times-plus : (a b c : ℤ) → a *ℤ (b +ℤ c) ≡ (a *ℤ b) +ℤ (a *ℤ c)
+times-plus a b c = rw (*ℤ-comm a (b +ℤ c), plus-times b c a, *ℤ-comm b a, *ℤ-comm c a)
+
+pub neg-times : (a b : ℤ) → negℤ a *ℤ b ≡ negℤ (a *ℤ b)
+neg-times a b = omega (ints, rw (neg-law a .0, neg-law a .1) at (times-law (negℤ a) b), times-law a b, neg-law (a *ℤ b))
+
+pub times-neg : (a b : ℤ) → a *ℤ negℤ b ≡ negℤ (a *ℤ b)
+times-neg a b = rw (*ℤ-comm a (negℤ b), neg-times b a, *ℤ-comm b a)
