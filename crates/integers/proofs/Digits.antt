@@ -1,16 +1,14 @@
--- Laws of the digits, at every index and depth. Assumes nothing.
-use mathlib.Core.Path.{_≡_, refl, sym, ap, _∙_}
-use Prim.Native.Nat.{ℕ, zero, suc, _+_, _*_, _-_, _/_, _%_, _^_, _<_, _≤_}
+-- Laws of the single digits, at every index. Assumes nothing.
+use mathlib.Core.Path.{_≡_, refl, ap, _∙_}
+use Prim.Native.Nat.{ℕ, zero, suc, _+_, _*_, _-_, _^_, _<_, _≤_}
 use native.Mathlib.Omega.{arith}
-use native.Mathlib.Nat.{div-add-mod', mod-lt, mul-le-mul-right, pow-succ', zero-add, zero-div}
+use native.Mathlib.Nat.{div-add-mod', mod-lt, pow-succ', zero-div}
 use native.Mathlib.Numerals.{add-one}
-use lib.Bits.{bitOr}
-use lib.Pow.{pow-pos, suc-ones}
-use lib.IntN.{ℤ, pos, negsuc, _+ℤ_, _-ℤ_, _*ℤ_}
-use lib.Signed.{mag}
-use Rattle.integers.specs.Numbers.{floorBy, turned, lowest, cleared, digit, digitsBelow, anyBelow, lowDigits}
-use Rattle.integers.proofs.Kit.{up, down, ints, plus-law, minus-law, times-law, size-range, by-size}
-use Rattle.integers.proofs.Floor.{floor-low, floor-high, floor-floor, floor-none, floor-turned, floor-range, floor-widened, turned-pos, turned-negsuc}
+use lib.Pow.{suc-ones}
+use lib.IntN.{ℤ, pos, negsuc, _+ℤ_, _*ℤ_}
+use Rattle.integers.specs.Numbers.{floorBy, turned, lowest, cleared, digit}
+use Rattle.integers.proofs.Kit.{up, down, ints, plus-law, minus-law, times-law}
+use Rattle.integers.proofs.Floor.{floor-floor, floor-turned, floor-widened, turned-pos, turned-negsuc}
 
 -- ---- a digit is 0 or 1, and is what a floor has over twice the next one
 pub lowest-law : (y : ℤ) → up y + 2 * down (floorBy y 1) ≡ lowest y + 2 * up (floorBy y 1) + down y
@@ -57,95 +55,6 @@ pub digit-floor : (x : ℤ) (d i : ℕ) → digit (floorBy x d) i ≡ digit x (d
 unfolding digit
 digit-floor x d i = ap lowest (floor-floor x d i)
 
--- ---- the digits below k are what a floor by 2 ^ k leaves
-pub below-law : (x : ℤ) (k : ℕ) → up x + down (floorBy x k) * 2 ^ k ≡ up (floorBy x k) * 2 ^ k + digitsBelow x k + down x
-unfolding digitsBelow
-below-law x zero = rw (floor-none x) (omega arith)
-below-law x (suc k) = omega (arith, below-law x k, ap (λ (i : ℕ). i * 2 ^ k) (digit-law x k), ap (λ (i : ℕ). up (floorBy x (suc k)) * i) (pow-succ' 2 k), ap (λ (i : ℕ). down (floorBy x (suc k)) * i) (pow-succ' 2 k))
-
-pub below-more : (x : ℤ) (k : ℕ) → digitsBelow x (suc k) ≡ digit x k * 2 ^ k + digitsBelow x k
-unfolding digitsBelow
-below-more x k = refl
-
-pub below-range : (x : ℤ) (k : ℕ) → digitsBelow x k < 2 ^ k
-below-range x k = omega (arith, below-law x k, floor-high x k)
-
--- ---- the low digits: x = (floor (x / 2 ^ d) + digit d - 1) * 2 ^ d + low digits, for d = k + 1
-pub low-law : (x : ℤ) (k : ℕ) → up (lowDigits x (suc k)) + digit x k * 2 ^ k ≡ digitsBelow x k + down (lowDigits x (suc k))
-unfolding lowDigits
-low-law x k = omega (arith, minus-law (pos (digitsBelow x k)) (pos (digit x k * 2 ^ k)))
-
-pub floor-low-digits : (x : ℤ) (k : ℕ) → ((floorBy x (suc k) +ℤ pos (digit x k)) *ℤ pos (2 ^ suc k)) +ℤ lowDigits x (suc k) ≡ x
-floor-low-digits x k =
-    let q = floorBy x (suc k) in
-    let t = q +ℤ pos (digit x k) in
-    omega (
-      ints,
-      plus-law (t *ℤ pos (2 ^ suc k)) (lowDigits x (suc k)),
-      times-law t (pos (2 ^ suc k)),
-      ap (λ (i : ℕ). i * 2 ^ suc k) (plus-law q (pos (digit x k))),
-      ap (λ (i : ℕ). digit x k * i) (pow-succ' 2 k),
-      low-law x k,
-      below-law x (suc k),
-      below-more x k,
-    )
-
--- they lie from -2 ^ (d - 1) to 2 ^ (d - 1) - 1
-pub low-range : (x : ℤ) (k : ℕ) → mag (lowDigits x (suc k)) < 2 ^ k
-low-range x k = by-size (2 ^ k) (lowDigits x (suc k)) (omega (arith, low-law x k, below-range x k, mul-le-mul-right {m = digit x k} {n = 1} (2 ^ k) (digit-le x k)))
-
--- ---- a digit below k is 1 exactly where the digits below k, at their weights, are more than 0, and where the low k digits are not 0
-or-bit : (a b : ℕ) → a ≤ 1 → b ≤ 1 → (bitOr a b ≤ 1) × (a ≤ bitOr a b) × (b ≤ bitOr a b) × (bitOr a b ≤ a + b)
-or-bit zero zero h k = omega arith
-or-bit zero (suc zero) h k = omega arith
-or-bit zero (suc (suc b)) h k = absurd (omega arith)
-or-bit (suc zero) zero h k = omega arith
-or-bit (suc zero) (suc zero) h k = omega arith
-or-bit (suc zero) (suc (suc b)) h k = absurd (omega arith)
-or-bit (suc (suc a)) b h k = absurd (omega arith)
-
-pub any-le : (x : ℤ) (k : ℕ) → anyBelow x k ≤ 1
-unfolding anyBelow
-any-le x zero = omega arith
-any-le x (suc k) = or-bit (digit x k) (anyBelow x k) (digit-le x k) (any-le x k) .0
-
-pub none-below : (x : ℤ) (k : ℕ) → anyBelow x k ≡ 0 → digitsBelow x k ≡ 0
-unfolding anyBelow digitsBelow
-none-below x zero e = refl
-none-below x (suc k) e =
-    let o = or-bit (digit x k) (anyBelow x k) (digit-le x k) (any-le x k) in
-    let d : digit x k ≡ 0 = omega arith in
-    let r = none-below x k (omega arith) in
-    rw (d, r) (omega arith)
-
-pub some-below : (x : ℤ) (k : ℕ) → digitsBelow x k ≡ 0 → anyBelow x k ≡ 0
-unfolding anyBelow digitsBelow
-some-below x zero e = refl
-some-below x (suc k) e =
-    let o = or-bit (digit x k) (anyBelow x k) (digit-le x k) (any-le x k) in
-    let d : digit x k ≡ 0 = zero-digit (digit x k) (2 ^ k) (pow-pos k) (omega arith) in
-    let r = some-below x k (omega arith) in
-    rw (d, r)
-  where
-    zero-digit : (b m : ℕ) → 0 < m → b * m ≡ 0 → b ≡ 0
-    zero-digit zero m h e = refl
-    zero-digit (suc b) m h e = absurd (omega arith)
-
-pub low-none : (x : ℤ) (k : ℕ) → anyBelow x k ≡ 0 → lowDigits x k ≡ pos 0
-unfolding lowDigits
-low-none x zero e = refl
-low-none x (suc k) e = omega (ints, none-below x (suc k) e, below-more x k, minus-law (pos (digitsBelow x k)) (pos (digit x k * 2 ^ k)))
-
-pub none-low : (x : ℤ) (k : ℕ) → lowDigits x k ≡ pos 0 → anyBelow x k ≡ 0
-unfolding anyBelow
-none-low x zero e = refl
-none-low x (suc k) e = some-below x (suc k) (omega (arith, below-more x k, both (digit x k) (digit-le x k) (omega (ints, low-law x k, e))))
-  where
-    both : (b : ℕ) → b ≤ 1 → b * 2 ^ k ≡ digitsBelow x k → b * 2 ^ k + digitsBelow x k ≡ 0
-    both zero h q = omega arith
-    both (suc zero) h q = absurd (omega (arith, below-range x k))
-    both (suc (suc b)) h q = absurd (omega arith)
-
 -- ---- a number and its lowest digit make an even number
 pub lowest-evened : (y : ℤ) → lowest (y +ℤ pos (lowest y)) ≡ 0
 lowest-evened y =
@@ -186,22 +95,6 @@ lowest-cleared x = let z = cleared x in omega (arith, cleared-law x, lowest-law 
 
 pub floor-cleared : (x : ℤ) → floorBy (cleared x) 1 ≡ floorBy x 1
 floor-cleared x = omega (ints, cleared-law x, lowest-law x, lowest-law (cleared x), lowest-cleared x)
-
--- ---- a number that fits k + 1 digits is its digits below k + 1, with the highest of them counted against them at twice its weight
-pub fits-digits : (x : ℤ) (k : ℕ) → mag x < 2 ^ k → up x + digit x k * 2 ^ suc k ≡ digitsBelow x (suc k) + down x
-fits-digits x k h = omega (arith, below-law x (suc k), ap (λ (i : ℕ). i * 2 ^ suc k) none-up, ap (λ (i : ℕ). i * 2 ^ suc k) digit-down)
-  where
-    here : mag (floorBy x k) < 1
-    here = floor-range x 0 k (rw (zero-add k) h)
-
-    next : mag (floorBy x (suc k)) < 1
-    next = floor-range x 0 (suc k) (rw zero-add (omega (arith, pow-succ' 2 k)))
-
-    none-up : up (floorBy x (suc k)) ≡ 0
-    none-up = omega (arith, size-range 1 (floorBy x (suc k)) next)
-
-    digit-down : down (floorBy x (suc k)) ≡ digit x k
-    digit-down = omega (arith, digit-law x k, digit-le x k, none-up, size-range 1 (floorBy x k) here, size-range 1 (floorBy x (suc k)) next)
 
 -- ---- every digit of -1 is 1
 pub digit-minus-one : (i : ℕ) → digit (negsuc 0) i ≡ 1

@@ -7,7 +7,8 @@ use lib.Bits.{bitAnd, bitOr, and-le-l, and-le-r, or-lt, or-add-and}
 use lib.IntN.{ℤ}
 use Rattle.integers.specs.Numbers.{digit, digitsBelow, anyBelow}
 use Rattle.integers.proofs.Kit.{apart}
-use Rattle.integers.proofs.Digits.{digit-le, any-le, below-more, below-range, none-below, some-below}
+use Rattle.integers.proofs.Digits.{digit-le}
+use Rattle.integers.proofs.LowDigits.{any-le, below-more, below-range, none-below, some-below}
 
 -- ---- the round bit that rounds to even, "(T or b) and h", as bounds: h is digit k, b digit k + 1, T says whether a digit below k is 1
 pub record EvenBit (x : ℤ) (k s : ℕ) : Type 0 where

@@ -3,7 +3,7 @@
 -- `omega (ints, plus-law a b, times-law c d)` proves a fact of ℤ as `omega arith` proves one of ℕ. A product is exact in its monomials:
 -- hand over a law times a factor, `ap (λ (k : ℕ). k * m) (plus-law a b)`. Assumes nothing.
 use mathlib.Core.Path.{_≡_, refl, sym, ap, _∙_, subst}
-use mathlib.Core.Bool.{Bool, true, false, not, cond}
+use mathlib.Core.Bool.{Bool, true, false, not, cond, _&&_}
 use Prim.Native.Nat.{ℕ, zero, suc, _+_, _*_, _-_, _^_, _<_, _≤_, max, min}
 use native.Mathlib.Nat.{add-zero, zero-add}
 use native.Mathlib.Omega.{arith}
@@ -105,6 +105,10 @@ is-true false h = absurd h
 pub is-false : (t : Bool) → (T t → ⊥) → t ≡ false
 is-false true h = absurd (h tt)
 is-false false h = refl
+
+pub and-both : (a b : Bool) → (a && b) ≡ true → (a ≡ true) × (b ≡ true)
+and-both true b e = (refl, e)
+and-both false b e = (e, let z : _≡_ {A = Bool} false true = e in cc)
 
 pub le-true : (a b : ℤ) → leZ a b ≡ true → up a + down b ≤ up b + down a
 le-true a b e = leb-true _ _ (sym (leZ-is a b) ∙ e)

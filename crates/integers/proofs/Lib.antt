@@ -2,6 +2,7 @@ pub mod Kit
 pub mod Times
 pub mod Floor
 pub mod Digits
+pub mod LowDigits
 pub mod Even
 pub mod Width
 pub mod Halves

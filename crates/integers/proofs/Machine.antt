@@ -1,25 +1,26 @@
 -- What a few machine operations on an i64 compute, in the terms of the definitions, with the depth a variable. `ofZ w64 x` are the bits of
 -- x as a natural number, `toZ w64 b` is the number that the bits b mean. Assumes nothing.
 use mathlib.Core.Path.{_≡_, refl, sym, ap, _∙_, subst}
-use mathlib.Core.Bool.{Bool, true, false, _||_}
+use mathlib.Core.Bool.{Bool, true, false, _||_, or-false}
 use Prim.Native.Nat.{ℕ, zero, suc, _+_, _*_, _-_, _/_, _%_, _^_, _<_, _≤_}
 use native.Mathlib.Omega.{arith}
-use native.Mathlib.Nat.{mod-eq-of-lt, div-eq-of-lt, lt-div-mul-add, lt-of-lt-of-le, lt-of-le-of-lt, mod-lt, div-add-mod', mul-le-mul-right, add-comm}
+use native.Mathlib.Nat.{mod-eq-of-lt, div-eq-of-lt, lt-div-mul-add, lt-of-lt-of-le, lt-of-le-of-lt}
 use lib.Dec.{T, eqb, ltb}
 use lib.Arith.{digits-mod}
 use lib.Bits.{bitAnd, and-mask}
-use lib.Pow.{pow-pos, pow-add, pow-mono, shl-lt, shl-shr, shr-lt, high}
-use lib.IntN.{ℤ, pos, negsuc, negℤ, natAbs, _+ℤ_, _-ℤ_, _*ℤ_}
+use lib.Pow.{pow-pos, pow-add, pow-mono, shl-lt}
+use lib.IntN.{ℤ, pos, negsuc, negℤ, natAbs, _+ℤ_, _*ℤ_}
 use lib.Signed.{mag, mag-shr, nonNeg, shrZ, ltZ}
 use mir.Syntax.{Width, w64}
 use mir.Val.{Fits, SFits, bits, hbits, toZ, ofZ}
 use mir.Facts.{toZ-ofZ, toZ-pos, toZ-neg}
 use borrow.Author.Tests.{eq-eqb, ne-eqb, ltb-true, ltb-false}
 use Rattle.integers.specs.Numbers.{fitsWidth, turned, cleared, floorBy, lowest, digit, digitsBelow, lowDigits}
-use Rattle.integers.proofs.Kit.{up, down, ints, size-range, by-machine, plus-law, minus-law, neg-law, times-law}
-use Rattle.integers.proofs.Floor.{floor-size, floor-range, turned-pos, turned-negsuc}
-use Rattle.integers.proofs.Digits.{lowest-le, cleared-is, digit-le, digit-law, below-law, below-more, below-range, low-range, floor-low-digits}
-use Rattle.integers.proofs.Width.{fits-is}
+use Rattle.integers.proofs.Kit.{ints, size-range, by-machine, plus-law, neg-law, times-law}
+use Rattle.integers.proofs.Floor.{floor-size, floor-range, turned-pos, turned-negsuc, floor-widened}
+use Rattle.integers.proofs.Digits.{cleared-is, digit-law}
+use Rattle.integers.proofs.LowDigits.{below-law, below-range, low-range, floor-low-digits, below-low, below-split, below-same, lowest-below}
+use Rattle.integers.proofs.Width.{fits-is, widen-size}
 
 -- ---- `x >> d`
 pub floor-machine : {x : ℤ} (d : ℕ) → SFits w64 x → SFits w64 (floorBy x d)
@@ -32,17 +33,28 @@ unfolding floorBy
 floor-far (pos n) d f h = ap pos (div-eq-of-lt (f .sfits) ∙ sym (div-eq-of-lt (lt-of-lt-of-le (f .sfits) (pow-mono h))))
 floor-far (negsuc n) d f h = ap negsuc (div-eq-of-lt (f .sfits) ∙ sym (div-eq-of-lt (lt-of-lt-of-le (f .sfits) (pow-mono h))))
 
--- ---- `y & 1`
-turned-bit : (n a : ℕ) → n + suc a ≡ 2 ^ 64 → n % 2 ≡ 1 - a % 2
-turned-bit n a e = omega (arith, div-add-mod' n 2, div-add-mod' a 2, mod-lt n {m = 2} (omega arith), mod-lt a {m = 2} (omega arith))
+-- ---- the bits of an i64 are its digits below 64, and end in those below d
+bits-end : (x : ℤ) (d s : ℕ) → SFits w64 x → d + s ≡ 64 → ofZ w64 x ≡ digitsBelow (floorBy x d) s * 2 ^ d + digitsBelow x d
+unfolding floorBy
+bits-end x d s f e = all x f ∙ ap (digitsBelow x) (sym e) ∙ below-split x d s ∙ omega arith
+  where
+    all : (x : ℤ) → SFits w64 x → ofZ w64 x ≡ digitsBelow x 64
+    all (pos n) f = sym (below-same n 64 (omega (arith, f .sfits)))
+    all (negsuc n) f =
+        let h : n < 2 ^ 64 = omega (arith, f .sfits) in
+        omega (arith, rw (div-eq-of-lt h) at (below-law (negsuc n) 64))
 
-and-one : (y : ℤ) → SFits w64 y → bitAnd (ofZ w64 y) 1 ≡ lowest y
-unfolding lowest
-and-one (pos a) f = and-mask a 1
-and-one (negsuc a) f = and-mask (2 ^ 64 - suc a) 1 ∙ turned-bit (2 ^ 64 - suc a) a (omega (arith, f .sfits))
+-- so `x & (2 ^ d - 1)` are the digits below d: `y & 1` and `x & 255`
+mask-machine : (x : ℤ) (d : ℕ) → d ≤ 63 → SFits w64 x → toZ w64 (bitAnd (ofZ w64 x) (2 ^ d - 1)) ≡ pos (digitsBelow x d)
+mask-machine x d l f =
+    ap (toZ w64) (and-mask (ofZ w64 x) d ∙ ap (λ (u : ℕ). u % 2 ^ d) (bits-end x d (64 - d) f (omega arith)) ∙ digits-mod (digitsBelow (floorBy x d) (64 - d)) (below-range x d))
+    ∙ toZ-pos w64 (lt-of-lt-of-le (below-range x d) (pow-mono l))
 
 pub lowest-machine : (y : ℤ) → SFits w64 y → toZ w64 (bitAnd (ofZ w64 y) 1) ≡ pos (lowest y)
-lowest-machine y f = ap (toZ w64) (and-one y f) ∙ toZ-pos w64 (omega (arith, lowest-le y))
+lowest-machine y f = mask-machine y 1 (omega arith) f ∙ ap pos (lowest-below y)
+
+pub byte-machine : (x : ℤ) → SFits w64 x → toZ w64 (bitAnd (ofZ w64 x) 255) ≡ pos (digitsBelow x 8)
+byte-machine x f = mask-machine x 8 (omega arith) f
 
 -- a cast to an unsigned type of an i64 that is k
 pub by-cast : {w : Width} {t : ℤ} (k : ℕ) → t ≡ pos k → k < 2 ^ bits w → T (nonNeg t) × Fits w (natAbs t)
@@ -70,18 +82,10 @@ pub by-bits : {z : ℤ} (k : ℕ) → SFits w64 z → ofZ w64 z ≡ k → z ≡ 
 by-bits k f e = sym (toZ-ofZ f) ∙ ap (toZ w64) e
 
 -- ---- `(y == 0) | (y == -1)`
-or-no : (a : Bool) → (a || false) ≡ a
-or-no true = refl
-or-no false = refl
-
-same-zero : (a b : ℕ) → (a ≡ 0 → b ≡ 0) → (b ≡ 0 → a ≡ 0) → eqb a 0 ≡ eqb b 0
-same-zero zero b f g = sym (eq-eqb b 0 (f refl))
-same-zero (suc a) b f g = ne-eqb (suc a) 0 (λ e. omega arith) ∙ sym (ne-eqb b 0 (λ e. let z = g e in omega arith))
-
 only-sign : (y : ℤ) → SFits w64 y → (eqb (ofZ w64 y) 0 || eqb (ofZ w64 y) (2 ^ 64 - 1)) ≡ eqb (mag y) 0
-only-sign (pos n) f = ap (λ (b : Bool). eqb n 0 || b) (ne-eqb n (2 ^ 64 - 1) (λ e. omega (arith, f .sfits))) ∙ or-no (eqb n 0)
+only-sign (pos n) f = rw (ne-eqb n (2 ^ 64 - 1) (λ e. omega (arith, f .sfits)), or-false)
 only-sign (negsuc n) f =
-    ap (λ (b : Bool). b || eqb (2 ^ 64 - suc n) (2 ^ 64 - 1)) (ne-eqb (2 ^ 64 - suc n) 0 (λ e. omega (arith, f .sfits))) ∙ last n (f .sfits)
+    rw (ne-eqb (2 ^ 64 - suc n) 0 (λ e. omega (arith, f .sfits))) (last n (f .sfits))
   where
     last : (n : ℕ) → n < 2 ^ 63 → eqb (2 ^ 64 - suc n) (2 ^ 64 - 1) ≡ eqb n 0
     last zero h = refl
@@ -136,90 +140,49 @@ cleared-machine x f = rw (cleared-is x) (twice x f)
     twice x f = by-machine (omega (arith, times-law (floorBy x 1) (pos 2), size-range (2 ^ 62) (floorBy x 1) (floor-range x 62 1 (f .sfits))))
 
 -- ---- `(x << s) >> s` with d + s = 64: the low d digits
--- the bits of x end in its digits below d
-bits-end : (x : ℤ) (d s : ℕ) → SFits w64 x → d + s ≡ 64 → (hi : ℕ) × (ofZ w64 x ≡ hi * 2 ^ d + digitsBelow x d)
-unfolding floorBy
-bits-end (pos a) d s f e = (a / 2 ^ d, omega (arith, below-law (pos a) d))
-bits-end (negsuc a) d s f e = (2 ^ s - suc (a / 2 ^ d), omega (arith, below-law (negsuc a) d, ap (λ (k : ℕ). k * 2 ^ d) room, whole, f .sfits))
-  where
-    room : 2 ^ s - suc (a / 2 ^ d) + suc (a / 2 ^ d) ≡ 2 ^ s
-    room = omega (arith, shr-lt {n = a} s d (rw (add-comm s d, e) (omega (arith, f .sfits))))
-
-    whole : 2 ^ s * 2 ^ d ≡ 2 ^ 64
-    whole = sym (pow-add 2 s d) ∙ ap (λ (k : ℕ). 2 ^ k) (add-comm s d ∙ e)
-
 shifted-out : (hi l d s : ℕ) → d + s ≡ 64 → l < 2 ^ d → ((hi * 2 ^ d + l) * 2 ^ s) % 2 ^ 64 ≡ l * 2 ^ s
 shifted-out hi l d s e h = ap (λ (k : ℕ). k % 2 ^ 64) split ∙ digits-mod hi (subst (λ (k : ℕ). l * 2 ^ s < 2 ^ k) e (shl-lt d s h))
   where
     split : (hi * 2 ^ d + l) * 2 ^ s ≡ hi * 2 ^ 64 + l * 2 ^ s
     split = omega (arith, ap (λ (k : ℕ). hi * k) (sym (ap (λ (k : ℕ). 2 ^ k) e) ∙ pow-add 2 d s))
 
--- the highest of the d digits counts against the others
-read-back : (b lo k s : ℕ) → b ≤ 1 → lo < 2 ^ k → suc k + s ≡ 64 → shrZ (toZ w64 ((b * 2 ^ k + lo) * 2 ^ s)) (2 ^ s) ≡ pos lo -ℤ pos (b * 2 ^ k)
-read-back zero lo k s l h e =
-    ap (λ (u : ℕ). shrZ (toZ w64 u) (2 ^ s)) plain
-    ∙ ap (λ (z : ℤ). shrZ z (2 ^ s)) (toZ-pos w64 small)
-    ∙ ap pos (shl-shr lo s)
-    ∙ omega (ints, minus-law (pos lo) (pos (0 * 2 ^ k)))
-  where
-    plain : (0 * 2 ^ k + lo) * 2 ^ s ≡ lo * 2 ^ s
-    plain = omega arith
-
-    e63 : k + s ≡ 63
-    e63 = omega arith
-
-    small : lo * 2 ^ s < 2 ^ 63
-    small = subst (λ (j : ℕ). lo * 2 ^ s < 2 ^ j) e63 (shl-lt k s h)
-read-back (suc zero) lo k s l h e =
-    ap (λ (u : ℕ). shrZ (toZ w64 u) (2 ^ s)) below
-    ∙ ap (λ (z : ℤ). shrZ z (2 ^ s)) (toZ-neg w64 (c * 2 ^ s - 1) (omega (arith, half, times)))
-    ∙ ap negsuc (ap (λ (u : ℕ). u / 2 ^ s) one-less ∙ high (c - 1) s (omega (arith, pow-pos s)))
-    ∙ omega (ints, minus-law (pos lo) (pos (1 * 2 ^ k)), room)
-  where
-    c : ℕ
-    c = 2 ^ k - lo
-
-    e63 : k + s ≡ 63
-    e63 = omega arith
-
-    room : c + lo ≡ 2 ^ k
-    room = omega arith
-
-    half : 2 ^ k * 2 ^ s ≡ 2 ^ 63
-    half = sym (pow-add 2 k s) ∙ ap (λ (j : ℕ). 2 ^ j) e63
-
-    times : c * 2 ^ s + lo * 2 ^ s ≡ 2 ^ k * 2 ^ s
-    times = omega (arith, ap (λ (j : ℕ). j * 2 ^ s) room)
-
-    some : 2 ^ s ≤ c * 2 ^ s
-    some = omega (arith, mul-le-mul-right {m = 1} {n = c} (2 ^ s) (omega arith))
-
-    below : (1 * 2 ^ k + lo) * 2 ^ s ≡ 2 ^ 64 - suc (c * 2 ^ s - 1)
-    below = omega (arith, half, times, some, pow-pos s)
-
-    one-less : c * 2 ^ s - 1 ≡ (c - 1) * 2 ^ s + (2 ^ s - 1)
-    one-less = omega (arith, some, pow-pos s, ap (λ (j : ℕ). j * 2 ^ s) (back c (omega arith)))
-      where
-        back : (c : ℕ) → 1 ≤ c → c - 1 + 1 ≡ c
-        back c h = omega arith
-read-back (suc (suc b)) lo k s l h e = absurd (omega arith)
-
-pub low-machine : (x : ℤ) (d : ℕ) → SFits w64 x → 0 < d → d ≤ 63 → shrZ (toZ w64 ((ofZ w64 x * 2 ^ (64 - d)) % 2 ^ 64)) (2 ^ (64 - d)) ≡ lowDigits x d
-unfolding lowDigits
-low-machine x zero f h l = absurd (omega arith)
-low-machine x (suc k) f h l =
-    let d = suc k in
-    let s = 64 - d in
-    let e : d + s ≡ 64 = omega arith in
-    let b = bits-end x d s f e in
-    ap (λ (u : ℕ). shrZ (toZ w64 ((u * 2 ^ s) % 2 ^ 64)) (2 ^ s)) (b .1)
-    ∙ ap (λ (u : ℕ). shrZ (toZ w64 u) (2 ^ s)) (shifted-out (b .0) (digitsBelow x d) d s e (below-range x d) ∙ ap (λ (u : ℕ). u * 2 ^ s) (below-more x k))
-    ∙ read-back (digit x k) (digitsBelow x k) k s (digit-le x k) (below-range x k) e
-
 pub low-fits : (w : Width) (x : ℤ) (d : ℕ) → d ≤ suc (hbits w) → SFits w (lowDigits x d)
 unfolding lowDigits
 low-fits w x zero h = record { sfits = pow-pos (hbits w) }
 low-fits w x (suc k) h = record { sfits = lt-of-lt-of-le (low-range x k) (pow-mono {i = k} {j = hbits w} (omega arith)) }
+
+-- so x and its low d digits are the same bits after the first shift, and of the low digits the second shift takes the first back
+pub low-machine : (x : ℤ) (d : ℕ) → SFits w64 x → 0 < d → d ≤ 63 → shrZ (toZ w64 ((ofZ w64 x * 2 ^ (64 - d)) % 2 ^ 64)) (2 ^ (64 - d)) ≡ lowDigits x d
+unfolding floorBy
+low-machine x zero f h l = absurd (omega arith)
+low-machine x (suc k) f h l =
+    ap (λ (u : ℕ). shrZ (toZ w64 u) (2 ^ s)) (shifted x f ∙ ap (λ (u : ℕ). u * 2 ^ s) (sym (below-low x d)) ∙ sym (shifted y fits))
+    ∙ ap (λ (z : ℤ). shrZ z (2 ^ s)) (times-machine s fits room)
+    ∙ rw alone at (floor-widened y 0 s (omega arith))
+  where
+    d : ℕ
+    d = suc k
+
+    s : ℕ
+    s = 64 - d
+
+    y : ℤ
+    y = lowDigits x d
+
+    shifted : (z : ℤ) → SFits w64 z → (ofZ w64 z * 2 ^ s) % 2 ^ 64 ≡ digitsBelow z d * 2 ^ s
+    shifted z g = rw (bits-end z d s g (omega arith)) (shifted-out (digitsBelow (floorBy z d) s) (digitsBelow z d) d s (omega arith) (below-range z d))
+
+    fits : SFits w64 y
+    fits = low-fits w64 x d (omega arith)
+
+    alone : y *ℤ pos (2 ^ s) +ℤ pos (0 * (2 ^ s - 1)) ≡ y *ℤ pos (2 ^ s)
+    alone = omega (ints, plus-law (y *ℤ pos (2 ^ s)) (pos (0 * (2 ^ s - 1))))
+
+    all : k + s ≡ 63
+    all = omega arith
+
+    room : SFits w64 (y *ℤ pos (2 ^ s))
+    room = record { sfits = rw (alone, all) at (widen-size y 0 k s (low-range x k) (omega arith)) }
 
 -- from 64 on they are x itself
 pub low-far : (x : ℤ) (d : ℕ) → SFits w64 x → 63 < d → lowDigits x d ≡ x

@@ -1,6 +1,6 @@
 -- Laws of "x fits n digits", at every width: what fits, and that sums and products of what fits stay inside an i64. Assumes nothing.
 use mathlib.Core.Path.{_≡_, refl, sym, ap, _∙_}
-use mathlib.Core.Bool.{Bool, true, false, _&&_}
+use mathlib.Core.Bool.{Bool, true, false}
 use Prim.Native.Nat.{ℕ, zero, suc, _+_, _*_, _-_, _^_, _<_, _≤_, max}
 use native.Mathlib.Omega.{arith}
 use native.Mathlib.Nat.{lt-of-lt-of-le, mul-le-mul, mul-le-mul-left, mul-le-mul-right}
@@ -12,27 +12,19 @@ use mir.Syntax.{w64}
 use mir.Val.{SFits}
 use borrow.Author.Tests.{ltb-true, ltb-false}
 use Rattle.integers.specs.Numbers.{lies, eqZ, fitsWidth, floorBy, turned, lowDigits}
-use Rattle.integers.proofs.Kit.{up, down, ints, plus-law, minus-law, neg-law, times-law, one-zero, size-range, by-size, by-le-true}
+use Rattle.integers.proofs.Kit.{up, down, ints, plus-law, minus-law, neg-law, times-law, one-zero, size-range, by-size, by-le-true, and-both}
 use Rattle.integers.proofs.Floor.{turned-size, floor-range}
-use Rattle.integers.proofs.Digits.{low-range}
+use Rattle.integers.proofs.LowDigits.{low-range}
 
 -- ---- a range, and a size below 2 ^ (n - 1)
 pub lies-true : (lo hi x : ℤ) → up lo + down x ≤ up x + down lo → up x + down hi ≤ up hi + down x → lies lo hi x ≡ true
 lies-true lo hi x h k = cc (by-le-true lo x h, by-le-true x hi k)
 
 pub lies-low : (lo hi x : ℤ) → lies lo hi x ≡ true → leZ lo x ≡ true
-lies-low lo hi x h = left (leZ lo x) (leZ x hi) h
-  where
-    left : (a b : Bool) → (a && b) ≡ true → a ≡ true
-    left true b e = refl
-    left false b e = e
+lies-low lo hi x h = and-both (leZ lo x) (leZ x hi) h .0
 
 pub lies-high : (lo hi x : ℤ) → lies lo hi x ≡ true → leZ x hi ≡ true
-lies-high lo hi x h = right (leZ lo x) (leZ x hi) h
-  where
-    right : (a b : Bool) → (a && b) ≡ true → b ≡ true
-    right true b e = e
-    right false b e = cc
+lies-high lo hi x h = and-both (leZ lo x) (leZ x hi) h .1
 
 pub eqZ-same : (a b : ℤ) → eqZ a b ≡ true → a ≡ b
 eqZ-same a b h = omega (ints, lies-low a a b h, lies-high a a b h)

@@ -1,13 +1,13 @@
 -- What the definitions of specs/ say, for the proofs here and in the rooms above. Assumes nothing.
-use Prim.Native.Nat.{ℕ, zero, suc, _+_, _-_, _*_, _^_, _≤_, _<_}
+use Prim.Native.Nat.{ℕ, suc, _+_, _-_, _*_, _^_, _≤_, _<_}
 use native.Mathlib.Nat.{lt-of-lt-of-le}
 use native.Mathlib.Omega.{arith}
-use mathlib.Core.Path.{_≡_, refl, sym, ap, _∙_}
-use mathlib.Core.Bool.{Bool, true, false, not, _&&_, _||_}
+use mathlib.Core.Path.{_≡_, refl, ap}
+use mathlib.Core.Bool.{Bool, true, false, _||_}
 use lib.Dec.{T, leb, eqb, leb→le}
 use lib.ListN.{length, getD}
-use lib.Pow.{pow-mono, pow-pos}
-use lib.IntN.{ℤ, pos, negsuc, negℤ, _+ℤ_, _*ℤ_}
+use lib.Pow.{pow-mono}
+use lib.IntN.{ℤ, pos, negℤ, _+ℤ_, _*ℤ_}
 use lib.Signed.{mag, _≤ℤ_}
 use mir.Syntax.{w64}
 use mir.Val.{SFits}
@@ -15,12 +15,12 @@ use mir.Facts.{and-yes}
 use borrow.Author.Tests.{not-false, leb-true, le-leb, eqb-true}
 use Rattle.integers.specs.Numbers.{lies, fitsWidth}
 use Rattle.integers.specs.Lists.{firstBad, all}
-use Rattle.integers.proofs.Kit.{up, down, ints, plus-law, times-law}
+use Rattle.integers.proofs.Kit.{up, down, ints, plus-law, times-law, and-both}
 use Rattle.integers.proofs.Lists.{all-each}
-use Rattle.integers.proofs.Width.{lies-true, lies-low, lies-high, fits-size, by-fits, fits-machine}
+use Rattle.integers.proofs.Width.{lies-true, lies-low, lies-high, fits-size, by-fits}
 use Rattle.words.specs.Words.{badWidth, badUnit, outside, badRoundBit, value}
 use Rattle.words.specs.Words.Kind.{plain, roundBit, halfUnit}
-use Rattle.words.specs.Refusals.{causeNumber, numberOf, inTable, causes, cause, refuseFor, refuse, _orElse_, formatCheck, wordCheck, after, blankFormat}
+use Rattle.words.specs.Refusals.{causeNumber, inTable, causes, cause, refuseFor, _orElse_, formatCheck, wordCheck, blankFormat}
 use Rattle.words.specs.declared.Cause.{Cause}
 use Rattle.words.specs.declared.Cause.the-variants.{Width, Unit, Number, Mismatch, Depth, WidthPast, UnitPast, NumberPast, DigitText, Buffer, Mark, Form}
 use Rattle.words.specs.declared.Outcome.{Outcome}
@@ -84,10 +84,6 @@ pub record RightFormat (f : Format) : Type 0 where
   pub wide : f .width ≤ 63
   pub fine : negℤ (pos 127) ≤ℤ f .unit
   pub coarse : f .unit ≤ℤ pos 127
-
-pub and-both : (a b : Bool) → (a && b) ≡ true → (a ≡ true) × (b ≡ true)
-and-both true b e = (refl, e)
-and-both false b e = (e, let z : _≡_ {A = Bool} false true = e in cc)
 
 pub right-format : (f : Format) → formatCheck f ≡ Done → RightFormat f
 unfolding formatCheck

@@ -8,6 +8,7 @@ use lib.IntN.{ℤ}
 use lib.Signed.{mag}
 use borrow.Author.Tests.{not-false, eqb-true, eq-eqb}
 use Rattle.integers.specs.Numbers.{eqZ}
+use Rattle.integers.proofs.Kit.{and-both}
 use Rattle.integers.proofs.Width.{eqZ-same, same-eqZ, fits-size, by-fits}
 use Rattle.words.specs.Words.{outside}
 use Rattle.words.specs.Refusals.{refuse, _orElse_, wordCheck, differ, after}
@@ -17,7 +18,7 @@ use Rattle.words.specs.declared.Cause.the-variants.{Mismatch, NumberPast
 use Rattle.words.specs.declared.Outcome.{Outcome}
 use Rattle.words.specs.declared.Outcome.the-variants.{Done, Refused}
 use Rattle.words.specs.declared.Format.{Format}
-use Rattle.words.proofs.Laws.{passed, both-passed, both-pass, refused-not-done, and-both, RightFormat, Right, right, word-right}
+use Rattle.words.proofs.Laws.{passed, both-passed, both-pass, refused-not-done, RightFormat, Right, right, word-right}
 use Rattle.words.proofs.Formats.{answer-right}
 
 -- ---- operands of one format, both ways

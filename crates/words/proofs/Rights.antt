@@ -7,7 +7,7 @@ use lib.Pow.{pow-mono}
 use lib.IntN.{ℤ, pos, _+ℤ_, _*ℤ_}
 use Rattle.integers.specs.Numbers.{turned, floorBy, cleared, lowDigits}
 use Rattle.integers.proofs.Floor.{turned-size, floor-range}
-use Rattle.integers.proofs.Digits.{low-range}
+use Rattle.integers.proofs.LowDigits.{low-range}
 use Rattle.integers.proofs.Width.{widen-size}
 use Rattle.integers.proofs.Halves.{cleared-size, doubled-size}
 use Rattle.words.specs.Formats.{narrower, narrowerCheck, wider}

@@ -14,7 +14,8 @@ use Rattle.integers.specs.Numbers.{floorBy, digit, digitsBelow}
 use Rattle.integers.proofs.Kit.{up, down, ints, plus-law, minus-law, neg-law, times-law, size-range, by-size, by-abs}
 use Rattle.integers.proofs.Times.{plus-times, times-assoc}
 use Rattle.integers.proofs.Floor.{floor-only}
-use Rattle.integers.proofs.Digits.{digit-le, below-law, below-more, below-range, both-bits, split-digit}
+use Rattle.integers.proofs.Digits.{digit-le, both-bits, split-digit}
+use Rattle.integers.proofs.LowDigits.{below-law, below-more, below-range}
 use Rattle.words.specs.declared.RoundBit.{RoundBit}
 use Rattle.digit_text.specs.Digits.{plus, minus, byteOf, digitOf, textValue}
 

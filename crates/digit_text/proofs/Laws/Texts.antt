@@ -13,7 +13,8 @@ use lib.Seq.{take-at}
 use Rattle.integers.specs.Numbers.{digit}
 use Rattle.integers.specs.Lists.{tab}
 use Rattle.integers.proofs.Kit.{ints, plus-law}
-use Rattle.integers.proofs.Digits.{digit-le, digit-turned, digit-floor, digit-widened, widened-twice, fits-digits, both-bits}
+use Rattle.integers.proofs.Digits.{digit-le, digit-turned, digit-floor, digit-widened, widened-twice, both-bits}
+use Rattle.integers.proofs.LowDigits.{fits-digits}
 use Rattle.integers.proofs.Lists.{length-tab}
 use Rattle.words.specs.RoundBit.{roundBitCheck}
 use Rattle.words.specs.declared.Outcome.the-variants.{Done}

@@ -7,7 +7,8 @@ use borrow.Author.Tests.{ne-eqb}
 use Rattle.integers.specs.Numbers.{floorBy, lowest, cleared, digitsBelow, anyBelow}
 use Rattle.integers.proofs.Kit.{ints, plus-law, times-law, apart}
 use Rattle.integers.proofs.Floor.{floor-widened}
-use Rattle.integers.proofs.Digits.{lowest-le, lowest-cleared, cleared-law, below-law, below-range, none-below, some-below}
+use Rattle.integers.proofs.Digits.{lowest-le, lowest-cleared, cleared-law}
+use Rattle.integers.proofs.LowDigits.{below-law, below-range, none-below, some-below}
 use Rattle.words.specs.Words.{value}
 use Rattle.words.specs.Words.Kind.{halfUnit}
 use Rattle.words.specs.Formats.{narrower, wider}

@@ -6,7 +6,7 @@ use lib.IntN.{ℤ, pos, negℤ, natAbs, _-ℤ_, _*ℤ_}
 use Rattle.integers.specs.Numbers.{turned, floorBy, digitsBelow}
 use Rattle.integers.proofs.Kit.{up, down, ints, minus-law, neg-law, times-law, apart, abs-apart}
 use Rattle.integers.proofs.Floor.{floor-none, floor-floor, floor-turned, turned-law, turned-turned}
-use Rattle.integers.proofs.Digits.{below-law, below-range}
+use Rattle.integers.proofs.LowDigits.{below-law, below-range}
 use Rattle.integers.proofs.Width.{fits-turned}
 use Rattle.words.specs.Words.{value}
 use Rattle.words.specs.Words.Kind.{halfUnit}

@@ -7,7 +7,7 @@ use mir.Val.{ofZ}
 use mir.Facts.{toZ-ofZ}
 use borrow.Author.Needs.{needs}
 use Rattle.integers.specs.Numbers.{anyBelow, lowDigits}
-use Rattle.integers.proofs.Digits.{any-le, low-none, none-low}
+use Rattle.integers.proofs.LowDigits.{any-le, low-none, none-low}
 use Rattle.integers.proofs.Machine.{by-bits}
 use Rattle.integers.proofs.any_below.Statement.{statement}
 use Rattle.integers.proofs.any_below.Tie as tie

@@ -2,9 +2,8 @@ use mathlib.Core.Path.{ap}
 use lib.IntN.{natAbs}
 use native.Mathlib.Omega.{arith}
 use Rattle.integers.specs.Numbers.{digitsBelow}
-use Rattle.integers.proofs.Digits.{below-range}
-use Rattle.integers.proofs.Machine.{by-cast}
-use Rattle.integers.proofs.Bytes.{byte-machine}
+use Rattle.integers.proofs.LowDigits.{below-range}
+use Rattle.integers.proofs.Machine.{by-cast, byte-machine}
 use Rattle.integers.proofs.low_byte.Statement.{statement}
 use Rattle.integers.proofs.low_byte.Tie as tie
 

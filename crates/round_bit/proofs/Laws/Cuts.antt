@@ -9,7 +9,8 @@ use Rattle.integers.specs.Numbers.{turned, floorBy, lowest, digit, digitsBelow,
 use Rattle.integers.proofs.Kit.{up, down, ints, plus-law, minus-law, neg-law, times-law, size-range, by-abs, abs-range, abs-law, apart, abs-apart}
 use Rattle.integers.proofs.Times.{times-assoc}
 use Rattle.integers.proofs.Floor.{floor-floor, floor-none, floor-turned, floor-widened, turned-law}
-use Rattle.integers.proofs.Digits.{digit-le, digit-floor, digit-turned, digit-widened, below-law, low-range, floor-low-digits, lowest-evened}
+use Rattle.integers.proofs.Digits.{digit-le, digit-floor, digit-turned, digit-widened, lowest-evened}
+use Rattle.integers.proofs.LowDigits.{below-law, low-range, floor-low-digits}
 use Rattle.integers.proofs.Even.{even-bit, even-plain, even-rounds}
 use Rattle.words.specs.Words.{value}
 use Rattle.words.specs.Words.Kind.{roundBit}
