@@ -17,14 +17,14 @@ use Rattle.integers.specs.Numbers.{digit}
 use Rattle.integers.proofs.Kit.{up, down, ints, plus-law, minus-law, times-law, abs-law, one-zero}
 use Rattle.integers.proofs.Times.{plus-times, times-assoc}
 use Rattle.words.specs.Words.{badWidth, badUnit}
-use Rattle.words.specs.Refusals.{refuseFor, _orElse_, formatCheck}
+use Rattle.words.specs.Refusals.{refuseFor, formatCheck}
 use Rattle.words.specs.Formats.{format}
 use Rattle.words.specs.RoundBit.{roundBitCheck}
 use Rattle.words.specs.declared.Cause.the-variants.{Width, Unit, DigitText, Buffer}
 use Rattle.words.specs.declared.Outcome.the-variants.{Done}
 use Rattle.words.specs.declared.RoundBit.{RoundBit}
 use Rattle.words.specs.declared.RoundBitWord.{RoundBitWord}
-use Rattle.words.proofs.Laws.{RightFormat, right-format, both-passed, both-pass, passed}
+use Rattle.words.proofs.Laws.{RightFormat, right-format, both-passed, three-passed, both-pass, passed}
 use Rattle.digit_text.specs.Digits.{plus, none, minus, signedDigit, byteOf, digitOf, textValue, signBefore}
 use Rattle.digit_text.specs.Writing.{writeCheck}
 use Rattle.digit_text.specs.Reading.{strange, goodAt, faulty, readCheck, readRound}
@@ -138,9 +138,8 @@ good-is t k s h e = rw (getD-any t k none 0 h, e)
 pub read-right : (t : List ℕ) (e : ℤ) → readCheck t e ≡ Done → RightFormat (format (length t) e) × (faulty t ≡ false)
 unfolding readCheck formatCheck
 read-right t e d =
-    let p = both-passed (refuseFor Width (badWidth (length t))) (refuseFor Unit (badUnit e) orElse refuseFor DigitText (faulty t)) d in
-    let q = both-passed (refuseFor Unit (badUnit e)) (refuseFor DigitText (faulty t)) (p .1) in
-    (right-format (format (length t) e) (both-pass (p .0) (q .0)), passed DigitText (faulty t) (q .1))
+    let p = three-passed (refuseFor Width (badWidth (length t))) (refuseFor Unit (badUnit e)) (refuseFor DigitText (faulty t)) d in
+    (right-format (format (length t) e) (both-pass (p .0) (p .1)), passed DigitText (faulty t) (p .2))
 
 -- and of a writing: there is room for the text
 pub write-room : (w : RoundBitWord) (room : ℕ) → writeCheck w room ≡ Done → w .format .width ≤ room

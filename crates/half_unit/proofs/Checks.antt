@@ -1,7 +1,6 @@
 -- What a passed check of each operation tells. Assumes nothing.
 use Prim.Native.Nat.{ℕ}
 use mathlib.Core.Path.{_≡_}
-use Rattle.words.specs.Refusals.{_orElse_}
 use Rattle.words.specs.Formats.{narrowerCheck, wider, answerCheck}
 use Rattle.words.specs.Plain.{plainCheck}
 use Rattle.words.specs.RoundBit.{roundBitCheck}
@@ -10,7 +9,7 @@ use Rattle.words.specs.declared.Outcome.the-variants.{Done}
 use Rattle.words.specs.declared.PlainWord.{PlainWord}
 use Rattle.words.specs.declared.RoundBitWord.{RoundBitWord}
 use Rattle.words.specs.declared.HalfUnitWord.{HalfUnitWord}
-use Rattle.words.proofs.Laws.{both-passed}
+use Rattle.words.proofs.Laws.{both-passed, three-passed}
 use Rattle.half_unit.specs.Cuts.{cutCheck}
 use Rattle.half_unit.specs.Conversions.{fromPlainCheck, toPlainCheck, fromRoundBitCheck}
 use Rattle.half_unit.specs.Sums.{sumCheck}
@@ -29,12 +28,7 @@ pub from-round-bit-passed : (w : RoundBitWord) → fromRoundBitCheck w ≡ Done 
 from-round-bit-passed w e = both-passed (roundBitCheck w) (answerCheck (wider (w .format) 1)) e
 
 pub sum-passed : (x y : HalfUnitWord) → sumCheck x y ≡ Done → (halfUnitCheck x ≡ Done) × (halfUnitCheck y ≡ Done)
-sum-passed x y e =
-    let p = both-passed (halfUnitCheck x) _ e in
-    (p .0, both-passed (halfUnitCheck y) _ (p .1) .0)
+sum-passed x y e = let p = three-passed (halfUnitCheck x) (halfUnitCheck y) _ e in (p .0, p .1)
 
 pub product-passed : (x y : HalfUnitWord) → productCheck x y ≡ Done → (halfUnitCheck x ≡ Done) × (halfUnitCheck y ≡ Done) × (answerCheck (productFormat (x .format) (y .format)) ≡ Done)
-product-passed x y e =
-    let p = both-passed (halfUnitCheck x) _ e in
-    let q = both-passed (halfUnitCheck y) _ (p .1) in
-    (p .0, q .0, q .1)
+product-passed x y e = three-passed (halfUnitCheck x) (halfUnitCheck y) _ e

@@ -1,22 +1,22 @@
--- What a passed check of each operation tells, and the definitions by depth at a depth that is not 0. Assumes nothing.
+-- What a done answer and a passed check of each operation tell, and the definitions by depth at a depth that is not 0. Assumes nothing.
 use Prim.Native.Nat.{ℕ, zero, suc, _-_}
 use native.Mathlib.Omega.{arith}
-use mathlib.Core.Path.{_≡_, refl, ap}
-use lib.Dec.{eqb}
-use lib.IntN.{ℤ}
-use borrow.Author.Tests.{eqb-true, not-false}
-use Rattle.integers.specs.Numbers.{eqZ, floorBy, digit, lowDigits}
-use Rattle.integers.proofs.Width.{eqZ-same}
-use Rattle.words.specs.Refusals.{refuseFor, _orElse_, differ}
+use mathlib.Core.Path.{_≡_, refl}
+use Rattle.integers.specs.Numbers.{floorBy, digit, lowDigits}
 use Rattle.words.specs.Formats.{narrower, narrowerCheck, wider, answerCheck}
-use Rattle.words.specs.RoundBit.{roundBitWord, roundBitCheck}
+use Rattle.words.specs.RoundBit.{roundBitWord, roundBitCheck, roundBitDone, _andThen_}
 use Rattle.words.specs.declared.Outcome.{Outcome}
-use Rattle.words.specs.declared.Outcome.the-variants.{Done}
+use Rattle.words.specs.declared.Outcome.the-variants.{Done, Refused}
 use Rattle.words.specs.declared.RoundBitWord.{RoundBitWord}
-use Rattle.words.proofs.Laws.{both-passed}
+use Rattle.words.proofs.Laws.{refused-not-done, both-passed, three-passed}
 use Rattle.round_bit.specs.Cuts.{cutWord, cutCheck, restWord, evenRoundBit, evenCutWord, widenCheck}
 use Rattle.round_bit.specs.Sums.{sumCheck}
 use Rattle.round_bit.specs.Products.{productFormat, productCheck}
+
+-- a done answer passed its check, and has the word that it was made with
+pub word-done : (o : Outcome) (w : RoundBitWord) → (o andThen roundBitDone w) .outcome ≡ Done → (o ≡ Done) × ((o andThen roundBitDone w) .word ≡ w)
+word-done Done w e = (refl, refl)
+word-done (Refused c) w e = absurd (refused-not-done e)
 
 pub cut-passed : (w : RoundBitWord) (d : ℕ) → cutCheck w d ≡ Done → (roundBitCheck w ≡ Done) × (narrowerCheck (w .format) d ≡ Done)
 cut-passed w d e = both-passed (roundBitCheck w) (narrowerCheck (w .format) d) e
@@ -25,15 +25,10 @@ pub widen-passed : (w : RoundBitWord) (d : ℕ) → widenCheck w d ≡ Done → 
 widen-passed w d e = both-passed (roundBitCheck w) (answerCheck (wider (w .format) d)) e
 
 pub sum-passed : (x y : RoundBitWord) → sumCheck x y ≡ Done → (roundBitCheck x ≡ Done) × (roundBitCheck y ≡ Done)
-sum-passed x y e =
-    let p = both-passed (roundBitCheck x) _ e in
-    (p .0, both-passed (roundBitCheck y) _ (p .1) .0)
+sum-passed x y e = let p = three-passed (roundBitCheck x) (roundBitCheck y) _ e in (p .0, p .1)
 
 pub product-passed : (x y : RoundBitWord) → productCheck x y ≡ Done → (roundBitCheck x ≡ Done) × (roundBitCheck y ≡ Done) × (answerCheck (productFormat (x .format) (y .format)) ≡ Done)
-product-passed x y e =
-    let p = both-passed (roundBitCheck x) _ e in
-    let q = both-passed (roundBitCheck y) _ (p .1) in
-    (p .0, q .0, q .1)
+product-passed x y e = three-passed (roundBitCheck x) (roundBitCheck y) _ e
 
 -- ---- "for d >= 1"
 one-less : (k : ℕ) → suc k - 1 ≡ k

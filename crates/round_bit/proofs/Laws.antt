@@ -1,6 +1,8 @@
 -- What is true of round-bit words, each fact once, at every width and depth. Values are in half units.
 pub mod Signs
 pub mod Cuts
+pub mod EvenCuts
+pub mod Widenings
 pub mod Added
 pub mod Sums
 pub mod Products

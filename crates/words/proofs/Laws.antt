@@ -59,7 +59,7 @@ cause-of-number Buffer t = refl
 cause-of-number Mark t = refl
 cause-of-number Form t = refl
 
--- ---- what "done" says of a test, and of two outcomes
+-- ---- what "done" says of a test, and of two and three outcomes
 pub refused-not-done : {c : Cause} → Refused c ≡ Done → ⊥
 refused-not-done e = let z : _≡_ {A = ℕ} 0 1 = cc in omega arith
 
@@ -70,6 +70,12 @@ passed c false e = refl
 pub both-passed : (o p : Outcome) → (o orElse p) ≡ Done → (o ≡ Done) × (p ≡ Done)
 both-passed Done p e = (refl, e)
 both-passed (Refused c) p e = absurd (refused-not-done e)
+
+pub three-passed : (o p q : Outcome) → (o orElse p orElse q) ≡ Done → (o ≡ Done) × (p ≡ Done) × (q ≡ Done)
+three-passed o p q e =
+    let a = both-passed o (p orElse q) e in
+    let b = both-passed p q (a .1) in
+    (a .0, b .0, b .1)
 
 pub both-pass : {o p : Outcome} → o ≡ Done → p ≡ Done → (o orElse p) ≡ Done
 both-pass e f = rw (e, f)

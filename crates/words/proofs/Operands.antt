@@ -2,7 +2,7 @@
 use Prim.Native.Nat.{ℕ, _-_, _^_, _<_}
 use native.Mathlib.Omega.{arith}
 use mathlib.Core.Path.{_≡_, refl, sym, _∙_}
-use mathlib.Core.Bool.{Bool, true, false}
+use mathlib.Core.Bool.{false}
 use lib.Dec.{eqb}
 use lib.IntN.{ℤ}
 use lib.Signed.{mag}
@@ -18,7 +18,7 @@ use Rattle.words.specs.declared.Cause.the-variants.{Mismatch, NumberPast
 use Rattle.words.specs.declared.Outcome.{Outcome}
 use Rattle.words.specs.declared.Outcome.the-variants.{Done, Refused}
 use Rattle.words.specs.declared.Format.{Format}
-use Rattle.words.proofs.Laws.{passed, both-passed, both-pass, refused-not-done, RightFormat, Right, right, word-right}
+use Rattle.words.proofs.Laws.{passed, both-passed, three-passed, both-pass, refused-not-done, RightFormat, Right, right, word-right}
 use Rattle.words.proofs.Formats.{answer-right}
 
 -- ---- operands of one format, both ways
@@ -35,9 +35,8 @@ format-same f = rw (eq-eqb (f .width) (f .width) refl, same-eqZ (f .unit) (f .un
 -- ---- two operands and a third check, both ways
 pub both-right : (f : Format) (x : ℤ) (r : ℕ) (g : Format) (y : ℤ) (s : ℕ) (o : Outcome) → (wordCheck f x r orElse wordCheck g y s orElse o) ≡ Done → Right f x r × Right g y s × (o ≡ Done)
 both-right f x r g y s o e =
-    let p = both-passed (wordCheck f x r) (wordCheck g y s orElse o) e in
-    let q = both-passed (wordCheck g y s) o (p .1) in
-    (right f x r (p .0), right g y s (q .0), q .1)
+    let p = three-passed (wordCheck f x r) (wordCheck g y s) o e in
+    (right f x r (p .0), right g y s (p .1), p .2)
 
 pub right-both : {f : Format} {x : ℤ} {r : ℕ} {g : Format} {y : ℤ} {s : ℕ} {o : Outcome} → Right f x r → Right g y s → o ≡ Done → (wordCheck f x r orElse wordCheck g y s orElse o) ≡ Done
 right-both {f} {x} {r} {g} {y} {s} p q e = both-pass (word-right f x r p) (both-pass (word-right g y s q) e)

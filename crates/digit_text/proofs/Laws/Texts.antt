@@ -23,7 +23,8 @@ use Rattle.words.specs.declared.RoundBitWord.{RoundBitWord}
 use Rattle.words.proofs.Laws.{RightRoundBit, round-bit-right}
 use Rattle.words.proofs.Formats.{digits-left}
 use Rattle.round_bit.specs.Cuts.{signChanged, signChangeWord, cutWord, cutOf, widenWord, widenOf}
-use Rattle.round_bit.proofs.Laws.Cuts.{cut-done, cut-tells, cut-format, widen-done, widen-tells, widen-cut-word}
+use Rattle.round_bit.proofs.Laws.Cuts.{cut-done, cut-tells, cut-format}
+use Rattle.round_bit.proofs.Laws.Widenings.{widen-done, widen-tells, widen-cut-word}
 use Rattle.digit_text.specs.Digits.{plus, none, minus, signedDigit, byteOf, byteAt, text, textValue}
 use Rattle.digit_text.specs.Reading.{firstFault}
 use Rattle.digit_text.proofs.Laws.Steps.{bitBelow, digitsText, bit-below-le, digits-length, digits-steps, digits-value}

@@ -9,16 +9,18 @@ use borrow.Author.Tests.{le-ltb}
 use Rattle.integers.specs.Numbers.{turned}
 use Rattle.integers.proofs.Kit.{ints, plus-law, neg-law}
 use Rattle.integers.proofs.Floor.{turned-pos, turned-negsuc, turned-law, turned-turned, turned-size}
-use Rattle.words.specs.Refusals.{_orElse_}
-use Rattle.words.specs.RoundBit.{roundBitCheck}
+use Rattle.words.specs.Words.{value}
+use Rattle.words.specs.Words.Kind.{roundBit}
+use Rattle.words.specs.RoundBit.{roundBitValue, roundBitCheck}
 use Rattle.words.specs.declared.Format.{Format}
 use Rattle.words.specs.declared.Outcome.the-variants.{Done}
 use Rattle.words.specs.declared.RoundBit.{RoundBit}
 use Rattle.words.specs.declared.RoundBitWord.{RoundBitWord}
-use Rattle.words.proofs.Laws.{Right, round-bit-right, word-right, both-passed}
-use Rattle.round_bit.specs.Cuts.{signChanged, signChangeWord}
+use Rattle.words.proofs.Laws.{Right, round-bit-right, round-bit-law, word-right, three-passed}
+use Rattle.round_bit.specs.Cuts.{signChanged, signChangeWord, signChangeOf}
 use Rattle.round_bit.specs.Sums.{sumCheck}
 use Rattle.round_bit.specs.Products.{signChangedIf, magnitude, exactlyOne}
+use Rattle.round_bit.proofs.Checks.{word-done}
 
 -- twice gives the number and the round bit back
 pub signs-twice : (n : RoundBit) → n .1 ≤ 1 → signChanged (signChanged n) ≡ n
@@ -43,12 +45,28 @@ pub sign-change-passed : (w : RoundBitWord) → roundBitCheck w ≡ Done → rou
 unfolding signChangeWord roundBitCheck
 sign-change-passed w e = word-right _ _ _ (signs-right (w .format) (w .number) (round-bit-right w e))
 
+pub sign-change-done : (w : RoundBitWord) → signChangeOf w .outcome ≡ Done → (roundBitCheck w ≡ Done) × (signChangeOf w .word ≡ signChangeWord w)
+sign-change-done w e = word-done (roundBitCheck w) (signChangeWord w) e
+
+-- closed: the word of a done answer passes its own check
+pub sign-change-closed : (w : RoundBitWord) → signChangeOf w .outcome ≡ Done → roundBitCheck (signChangeOf w .word) ≡ Done
+sign-change-closed w e = let c = sign-change-done w e in rw (c .1) (sign-change-passed w (c .0))
+
+-- the value is negated exactly; twice gives the word back
+pub sign-change-value : (w : RoundBitWord) → roundBitCheck w ≡ Done → roundBitValue (signChangeWord w) ≡ negℤ (roundBitValue w)
+unfolding signChangeWord
+sign-change-value w e =
+    let record { 0 = a; 1 = r } = w .number in
+    omega (ints, round-bit-law (turned a) (1 - r), round-bit-law a r, neg-law (value roundBit a r), turned-law a, round-bit-right w e .bit)
+
+pub sign-change-twice : (w : RoundBitWord) → roundBitCheck w ≡ Done → signChangeWord (signChangeWord w) ≡ w
+unfolding signChangeWord
+sign-change-twice w e = λ i. record { number = signs-twice (w .number) (round-bit-right w e .bit) i; format = w .format }
+
 pub sum-sign-passed : (x y : RoundBitWord) → sumCheck x y ≡ Done → sumCheck x (signChangeWord y) ≡ Done
 unfolding signChangeWord
 sum-sign-passed x y e =
-    let p = both-passed (roundBitCheck x) _ e in
-    let q = both-passed (roundBitCheck y) _ (p .1) in
-    rw (p .0, sign-change-passed y (q .0)) (q .1)
+    let p = three-passed (roundBitCheck x) (roundBitCheck y) _ e in rw (p .0, sign-change-passed y (p .1)) (p .2)
 
 -- ---- a sign change that is made or not: it keeps the size, and a round bit stays one
 pub signs-if-bit : (c : Bool) (n : RoundBit) → n .1 ≤ 1 → signChangedIf c n .1 ≤ 1
