@@ -5,4 +5,6 @@ pub mod EvenCuts
 pub mod Widenings
 pub mod Added
 pub mod Sums
+pub mod Conversions
+pub mod Multiplied
 pub mod Products

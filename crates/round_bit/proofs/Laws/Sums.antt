@@ -1,34 +1,24 @@
--- Sum and difference, and the way to and from plain words: what they do to values, and to each other. Assumes nothing.
+-- Sum and difference: what they do to values, and to each other. Assumes nothing.
 use Prim.Native.Nat.{ℕ, _+_, _-_, _^_, _≤_, _<_, min}
 use native.Mathlib.Omega.{arith}
 use mathlib.Core.Path.{_≡_, refl, sym, ap, _∙_}
-use mathlib.Core.Bool.{Bool, true, false}
-use mathlib.Core.Logic.{_⊎_, inl, inr}
 use lib.Bits.{or-zero-r, and-zero-r}
 use lib.Pow.{pow-pos}
 use lib.Signed.{mag}
 use lib.IntN.{ℤ, pos, negsuc, _+ℤ_, _*ℤ_, +ℤ-idr, -ℤ-+ℤ-cancel}
-use borrow.Author.Tests.{ltb-false, le-ltb}
-use Rattle.integers.specs.Numbers.{fitsWidth}
 use Rattle.integers.proofs.Kit.{ints, plus-law}
-use Rattle.integers.proofs.Width.{fits-is, carry-past}
 use Rattle.integers.proofs.Times.{times-plus, times-neg}
 use Rattle.words.specs.Words.{value}
-use Rattle.words.specs.Refusals.{cause, refuse, differ}
 use Rattle.words.specs.Formats.{format}
-use Rattle.words.specs.Plain.{plainValue, plainCheck, plainRefused, plainDone, plainFitted}
 use Rattle.words.specs.RoundBit.{roundBitWord, roundBitValue, roundBitCheck, roundBitRefused, roundBitDone, roundBitFitted, _andThen_}
-use Rattle.words.specs.declared.Cause.the-variants.{Mismatch}
 use Rattle.words.specs.declared.Format.{Format}
-use Rattle.words.specs.declared.Outcome.the-variants.{Done, Refused}
-use Rattle.words.specs.declared.PlainWord.{PlainWord}
+use Rattle.words.specs.declared.Outcome.the-variants.{Done}
 use Rattle.words.specs.declared.RoundBit.{RoundBit}
 use Rattle.words.specs.declared.RoundBitWord.{RoundBitWord}
-use Rattle.words.proofs.Laws.{Right, right, word-right, passed}
-use Rattle.words.proofs.Operands.{same-format, format-same, both-right, right-both, fit-passes, done-passed, done-fits}
+use Rattle.words.proofs.Laws.{Right, right, word-right}
+use Rattle.words.proofs.Operands.{operands-right, right-operands, fit-passes, done-fits}
 use Rattle.round_bit.specs.Cuts.{signChangeWord}
 use Rattle.round_bit.specs.Sums.{added, sumWord, sumCheck, sumOf, differenceOf}
-use Rattle.round_bit.specs.Conversions.{toPlainWord, toPlainOf, fromPlainWord, fromPlainOf}
 use Rattle.round_bit.proofs.Laws.Signs.{signs-value}
 use Rattle.round_bit.proofs.Laws.Added.{added-value, added-bit, added-comm, added-counts, added-signs, added-self}
 
@@ -41,12 +31,12 @@ record Operands (x y : RoundBitWord) : Type 0 where
 sum-check-tells : (x y : RoundBitWord) → sumCheck x y ≡ Done → Operands x y
 unfolding roundBitCheck
 sum-check-tells x y e =
-    let p = both-right (x .format) (x .number .0) (x .number .1) (y .format) (y .number .0) (y .number .1) (refuse 4 (differ (x .format) (y .format))) e in
-    record { first = p .0; second = p .1; same = same-format (x .format) (y .format) (passed Mismatch _ (p .2)) }
+    let p = operands-right (x .format) (x .number .0) (x .number .1) (y .format) (y .number .0) (y .number .1) e in
+    record { first = p .0; second = p .1; same = p .2 }
 
 sum-check-asks : (x y : RoundBitWord) → Operands x y → sumCheck x y ≡ Done
 unfolding roundBitCheck
-sum-check-asks x y p = right-both (p .first) (p .second) (rw (p .same, format-same (y .format)))
+sum-check-asks x y p = right-operands (p .first) (p .second) (p .same)
 
 -- a word that fits is its answer
 word-fits : (w : RoundBitWord) → mag (w .number .0) < 2 ^ (w .format .width - 1) → roundBitFitted w ≡ roundBitDone w
@@ -90,20 +80,6 @@ sum-closed x y e = answer-closed x y y e (answer-operands x y y e .second .bit)
 pub difference-closed : (x y : RoundBitWord) → differenceOf x y .outcome ≡ Done → roundBitCheck (differenceOf x y .word) ≡ Done
 unfolding signChangeWord
 difference-closed x y e = answer-closed x y (signChangeWord y) e (omega arith)
-
-pub to-plain-closed : (w : RoundBitWord) → toPlainOf w .outcome ≡ Done → plainCheck (toPlainOf w .word) ≡ Done
-unfolding toPlainWord plainFitted plainCheck roundBitCheck
-to-plain-closed w e =
-    let a = w .number .0 +ℤ pos (w .number .1) in
-    let p = done-fits plainRefused (λ a. a .outcome) (λ c. refl) (roundBitCheck w) (w .format) a (plainDone (toPlainWord w)) e in
-    let g = right (w .format) (w .number .0) (w .number .1) (p .0) in
-    rw (p .0, fit-passes (w .format) a (p .1)) (word-right (w .format) a 0 (record { format = g .format; size = p .1; bit = omega arith }))
-
-pub from-plain-closed : (w : PlainWord) → fromPlainOf w .outcome ≡ Done → roundBitCheck (fromPlainOf w .word) ≡ Done
-unfolding fromPlainWord plainCheck roundBitCheck
-from-plain-closed w e =
-    let p = done-passed roundBitRefused (λ a. a .outcome) (λ c. refl) (plainCheck w) (roundBitDone (fromPlainWord w)) e in
-    rw p p
 
 -- ---- sum: the values add exactly; it is commutative digit for digit; (0,0) is neutral on both sides
 pub sum-value : (x y : RoundBitWord) → sumOf x y .outcome ≡ Done → roundBitValue (sumOf x y .word) ≡ roundBitValue x +ℤ roundBitValue y
@@ -196,38 +172,3 @@ difference-self w e =
     let zero = roundBitWord (negsuc 0) 1 (w .format) in
     let same : sumWord w (signChangeWord w) ≡ zero = λ i. record { number = added-self (w .number) (g .bit) i; format = w .format } in
     rw (c, same) (word-fits zero (pow-pos (w .format .width - 1)))
-
--- ---- to plain and from plain keep the value; to plain after from plain is the word; to plain refuses only the one value 2 ^ (n - 1)
-pub to-plain-value : (w : RoundBitWord) → plainValue (toPlainWord w) ≡ roundBitValue w
-unfolding toPlainWord value
-to-plain-value w = refl
-
-pub from-plain-value : (w : PlainWord) → roundBitValue (fromPlainWord w) ≡ plainValue w
-unfolding fromPlainWord value
-from-plain-value w = rw (+ℤ-idr (w .number .0))
-
-pub from-to-plain : (w : PlainWord) → plainCheck w ≡ Done → toPlainOf (fromPlainWord w) ≡ plainDone w
-unfolding toPlainWord fromPlainWord plainFitted plainCheck roundBitCheck
-from-to-plain w e =
-    let g = right (w .format) (w .number .0) 0 e in
-    rw (e, +ℤ-idr (w .number .0), fit-passes (w .format) (w .number .0) (g .size))
-
-pub to-plain-refuses : (w : RoundBitWord) → roundBitCheck w ≡ Done → (toPlainOf w .outcome ≡ Done) ⊎ ((toPlainOf w .outcome ≡ Refused (cause 8 tt)) × (w .number .0 +ℤ pos (w .number .1) ≡ pos (2 ^ (w .format .width - 1))))
-unfolding toPlainWord plainFitted roundBitCheck
-to-plain-refuses w e = told (fitsWidth a (w .format .width)) refl
-  where
-    a : ℤ
-    a = w .number .0 +ℤ pos (w .number .1)
-
-    p : ℕ
-    p = 2 ^ (w .format .width - 1)
-
-    told : (b : Bool) → fitsWidth a (w .format .width) ≡ b → (toPlainOf w .outcome ≡ Done) ⊎ ((toPlainOf w .outcome ≡ Refused (cause 8 tt)) × (a ≡ pos p))
-    told true f = inl (rw (e, f))
-    told false f =
-        let g = right (w .format) (w .number .0) (w .number .1) e in
-        inr (rw (e, f), carry-past (w .number .0) (w .number .1) p (g .size) (g .bit) (ltb-false (mag a) p (sym (fits-is a (w .format .width)) ∙ f)))
-
-pub to-plain-past : (w : RoundBitWord) → roundBitCheck w ≡ Done → w .number .0 +ℤ pos (w .number .1) ≡ pos (2 ^ (w .format .width - 1)) → toPlainOf w .outcome ≡ Refused (cause 8 tt)
-unfolding toPlainWord plainFitted
-to-plain-past w e h = let n = w .format .width in rw (e, h, fits-is (pos (2 ^ (n - 1))) n, le-ltb (2 ^ (n - 1)) (2 ^ (n - 1)) (omega arith))
