@@ -4,11 +4,11 @@ use Prim.Native.Nat.{ℕ, zero, suc, _+_, _*_, _-_, _^_, _≤_, _<_}
 use native.Mathlib.Nat.{not-suc-le-zero, le-of-suc-le-suc, lt-of-lt-of-le, mul-le-mul-right, pow-succ'}
 use native.Mathlib.Numerals.{add-one}
 use native.Mathlib.Omega.{arith}
-use mathlib.Core.Path.{_≡_, refl, ap, _∙_}
+use mathlib.Core.Path.{_≡_, refl, sym, _∙_}
 use mathlib.Core.Bool.{Bool, true, false, not, cond, _&&_, _||_}
 use mathlib.Core.List.{List, [], _∷_, _++_}
 use lib.Dec.{eqb, ltb}
-use lib.IntN.{ℤ, pos, negsuc, natAbs, _+ℤ_, _-ℤ_, _*ℤ_}
+use lib.IntN.{ℤ, pos, negsuc, natAbs, _+ℤ_, _-ℤ_, _*ℤ_, zero-*ℤ, +ℤ-idl, +ℤ-assoc}
 use lib.ListN.{length, getD, take, length-append}
 use lib.Pow.{pow-add, pow-mono}
 use lib.Seq.{take-suc}
@@ -65,20 +65,12 @@ getD-any (a ∷ l) (suc k) x y h = getD-any l k x y (le-of-suc-le-suc h)
 -- ---- what a text is worth: one text behind another
 pub value-append : (s t : List ℕ) → textValue (s ++ t) ≡ (textValue s *ℤ pos (2 ^ length t)) +ℤ textValue t
 unfolding textValue
-value-append [] t = omega (ints, times-law (pos 0) (pos (2 ^ length t)), plus-law (pos 0 *ℤ pos (2 ^ length t)) (textValue t))
+value-append [] t = rw (zero-*ℤ, +ℤ-idl)
 value-append (b ∷ s) t =
-    let d = digitOf b in
     let p = pos (2 ^ length s) in
     let q = pos (2 ^ length t) in
-    let e : pos (2 ^ length (s ++ t)) ≡ p *ℤ q = rw (length-append s t) (ap pos (pow-add 2 (length s) (length t))) in
-    rw (e, value-append s t, plus-times (d *ℤ p) (textValue s) q, times-assoc d p q)
-    (omega (
-      ints,
-      plus-law (d *ℤ (p *ℤ q)) ((textValue s *ℤ q) +ℤ textValue t),
-      plus-law (textValue s *ℤ q) (textValue t),
-      plus-law ((d *ℤ (p *ℤ q)) +ℤ (textValue s *ℤ q)) (textValue t),
-      plus-law (d *ℤ (p *ℤ q)) (textValue s *ℤ q),
-    ))
+    rw (length-append s t, pow-add 2 (length s) (length t), value-append s t, plus-times (digitOf b *ℤ p) (textValue s) q, times-assoc (digitOf b) p q)
+    (sym (+ℤ-assoc (digitOf b *ℤ (p *ℤ q)) (textValue s *ℤ q) (textValue t)))
 
 last-byte : (v : ℤ) (b : ℕ) → (v *ℤ pos (2 ^ 1)) +ℤ textValue (b ∷ []) ≡ (pos 2 *ℤ v) +ℤ digitOf b
 unfolding textValue
@@ -118,13 +110,13 @@ pub sign-next : (t : List ℕ) (k s r : ℕ) → k < length t → s ≡ signBefo
 unfolding signBefore
 sign-next t k s r h e g = g ∙ rw (e, add-one, getD-any t k none 0 h)
 
+pub bit-le : (b : Bool) → cond b 1 0 ≤ 1
+bit-le true = omega arith
+bit-le false = omega arith
+
 pub round-le : (t : List ℕ) → readRound t ≤ 1
 unfolding readRound
-round-le t = go (eqb (signBefore t (length t)) plus)
-  where
-    go : (b : Bool) → cond b 1 0 ≤ 1
-    go true = omega arith
-    go false = omega arith
+round-le t = bit-le (eqb (signBefore t (length t)) plus)
 
 -- ---- a byte is good where it is no fault after the sign before it
 abbrev pub fault : ℕ → ℕ → Bool

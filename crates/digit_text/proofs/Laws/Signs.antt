@@ -1,22 +1,18 @@
--- The signs of a list of bytes: the one nearest before an index, which texts a scan from the start finds good, and that those are the
--- steps of bits. Assumes nothing.
+-- The signs of a list of bytes: the one nearest before an index, and what the first and the last of them decide. Assumes nothing.
 use Prim.Native.Nat.{ℕ, zero, suc, _≤_, _<_}
 use native.Mathlib.Nat.{not-suc-le-zero, le-of-suc-le-suc, eq-or-lt-of-le}
 use native.Mathlib.Omega.{arith}
-use mathlib.Core.Path.{_≡_, refl, sym, _∙_}
-use mathlib.Core.Bool.{Bool, true, false, not, cond, _&&_, _||_, true≢false, false≢true}
+use mathlib.Core.Path.{_≡_, refl}
+use mathlib.Core.Bool.{Bool, true, false, cond}
 use mathlib.Core.List.{List, [], _∷_}
 use mathlib.Core.Logic.{_⊎_, inl, inr}
 use lib.Dec.{eqb}
 use lib.IntN.{pos, _-ℤ_}
 use lib.ListN.{length, getD}
-use borrow.Author.Tests.{ne-eqb, eqb-true, eqb-false, ltb-false, not-true}
-use Rattle.integers.specs.Lists.{firstBad}
+use borrow.Author.Tests.{ne-eqb, eqb-true}
 use Rattle.integers.proofs.Kit.{up, down, ints}
 use Rattle.integers.proofs.Digits.{both-bits}
-use Rattle.integers.proofs.Lists.{first-bad-before, first-bad-none}
 use Rattle.digit_text.specs.Digits.{plus, none, minus, byteOf, digitOf, textValue, signBefore}
-use Rattle.digit_text.specs.Reading.{strange, goodAt, firstFault, faulty}
 use Rattle.digit_text.proofs.Laws.Steps.{nothing-worth, cons-law, value-small, Steps, ends, steps, steps-bits}
 
 -- ---- where the sign nearest before an index stands
@@ -63,7 +59,7 @@ found-sign t (suc k) s p n = go (eq-or-lt-of-le (le-of-suc-le-suc (p .before))) 
         (f (record { place = p .place; before = q; sign = p .sign; between = λ i h l. p .between i h (omega arith) }))
 
 -- ---- the sign nearest before an index, where s stands before the text
-abbrev after : ℕ → ℕ → ℕ
+abbrev pub after : ℕ → ℕ → ℕ
 after s b = cond (eqb b none) s b
 
 abbrev pub signFrom : ℕ → List ℕ → ℕ → ℕ
@@ -79,117 +75,6 @@ pub sign-from-cons : (s b : ℕ) (t : List ℕ) (k : ℕ) → signFrom s (b ∷ 
 sign-from-cons s b t zero = refl
 sign-from-cons s b t (suc k) = rw (sign-from-cons s b t k)
 
--- ---- a byte that is good behind the sign s, and a text that is good behind it
-abbrev goodByte : ℕ → ℕ → Bool
-goodByte s b = not (strange b || not (eqb b none) && eqb b s)
-
-abbrev Good : ℕ → List ℕ → Type 0
-Good s t = (k : ℕ) → k < length t → goodByte (signFrom s t k) (getD t k none) ≡ true
-
--- what a sign tells of the bit below it
-abbrev pub Tells : ℕ → ℕ → Type 0
-Tells s b = (s ≡ plus → b ≡ 1) × (s ≡ minus → b ≡ 0)
-
--- ---- steps are good behind a sign that tells the bit above them
-step-good : (s c b : ℕ) → c ≤ 1 → b ≤ 1 → Tells s b → (goodByte s (byteOf (pos c -ℤ pos b)) ≡ true) × Tells (after s (byteOf (pos c -ℤ pos b))) c
-unfolding byteOf
-step-good s =
-    both-bits (λ c b. Tells s b → (goodByte s (byteOf (pos c -ℤ pos b)) ≡ true) × Tells (after s (byteOf (pos c -ℤ pos b))) c)
-    (λ n. (refl, n))
-    (λ n. (rw (ne-eqb minus s (λ e. let z = n .1 (sym e) in omega arith)), omega arith))
-    (λ n. (rw (ne-eqb plus s (λ e. let z = n .0 (sym e) in omega arith)), omega arith))
-    (λ n. (refl, n))
-
-steps-good : {b r : ℕ} {t : List ℕ} (s : ℕ) → Tells s b → Steps b t r → Good s t
-steps-good s n (ends h) k l = absurd (not-suc-le-zero l)
-steps-good s n (steps {b = b} {c = c} h k p) zero l = step-good s c b k h n .0
-steps-good s n (steps {b = b} {c = c} {t = t} h k p) (suc i) l =
-    rw (sign-from-cons s (byteOf (pos c -ℤ pos b)) t i) (steps-good _ (step-good s c b k h n .1) p i (le-of-suc-le-suc l))
-
-pub steps-no-fault : {b r : ℕ} {t : List ℕ} → Steps b t r → firstFault t ≡ length t
-unfolding firstFault goodAt
-steps-no-fault {t = t} p = first-bad-none (length t) _ (λ k l. rw (sign-from-none t k) (steps-good none (omega arith) p k l))
-
--- ---- the three bytes
-pub data Byte : ℕ → Type 0 where
-  a-plus : Byte plus
-  a-none : Byte none
-  a-minus : Byte minus
-
-pub byte-kind : (b : ℕ) → strange b ≡ false → Byte b
-byte-kind b = go (eqb b plus) refl (eqb b none) refl (eqb b minus) refl
-  where
-    go : (p : Bool) → eqb b plus ≡ p → (n : Bool) → eqb b none ≡ n → (m : Bool) → eqb b minus ≡ m → not (p || n || m) ≡ false → Byte b
-    go true e n f m g h = rw (eqb-true b plus e) a-plus
-    go false e true f m g h = rw (eqb-true b none f) a-none
-    go false e false f true g h = rw (eqb-true b minus g) a-minus
-    go false e false f false g h = absurd (true≢false h)
-
--- ---- a good text is steps, with the bit below it 1 exactly where its last sign is `+`
-abbrev pub plusBit : ℕ → ℕ
-plusBit s = cond (eqb s plus) 1 0
-
-pub record Stepping (s : ℕ) (t : List ℕ) : Type 0 where
-  pub bit : ℕ
-  pub tells : Tells s bit
-  pub stepping : Steps bit t (plusBit (signFrom s t (length t)))
-
-stay : (b : ℕ) {r : ℕ} {t : List ℕ} → Steps b t r → Steps b (none ∷ t) r
-unfolding byteOf
-stay zero p = steps {b = 0} {c = 0} (omega arith) (omega arith) p
-stay (suc zero) p = steps {b = 1} {c = 1} (omega arith) (omega arith) p
-stay (suc (suc b)) p = absurd (omega (arith, steps-bits p))
-
-stepping-more : (s b : ℕ) (t : List ℕ) → Byte b → goodByte s b ≡ true → Stepping (after s b) t → Stepping s (b ∷ t)
-unfolding byteOf
-stepping-more s b t a-none g p =
-    record { bit = p .bit; tells = p .tells; stepping = rw (sign-from-cons s none t (length t)) (stay (p .bit) (p .stepping)) }
-stepping-more s b t a-plus g p =
-    let rising = rw (p .tells .0 refl) at (p .stepping) in
-    record {
-      bit = 0;
-      tells = (λ e. absurd (eqb-false plus s (not-true _ g) (sym e)), λ e. refl);
-      stepping = rw (sign-from-cons s plus t (length t)) (steps {b = 0} {c = 1} (omega arith) (omega arith) rising);
-    }
-stepping-more s b t a-minus g p =
-    let falling = rw (p .tells .1 refl) at (p .stepping) in
-    record {
-      bit = 1;
-      tells = (λ e. refl, λ e. absurd (eqb-false minus s (not-true _ g) (sym e)));
-      stepping = rw (sign-from-cons s minus t (length t)) (steps {b = 1} {c = 0} (omega arith) (omega arith) falling);
-    }
-
-plus-bit-le : (t : Bool) → cond t 1 0 ≤ 1
-plus-bit-le true = omega arith
-plus-bit-le false = omega arith
-
-not-strange : (a r : Bool) → not (a || r) ≡ true → a ≡ false
-not-strange true r e = absurd (false≢true e)
-not-strange false r e = refl
-
-good-steps : (s : ℕ) (t : List ℕ) → Good s t → Stepping s t
-good-steps s [] g = record { bit = plusBit s; tells = (λ e. rw e, λ e. rw e); stepping = ends (plus-bit-le (eqb s plus)) }
-good-steps s (b ∷ t) g =
-    let here = g zero (omega arith) in
-    stepping-more s b t (byte-kind b (not-strange (strange b) _ here)) here
-    (good-steps (after s b) t (λ k l. rw (sign-from-cons s b t k) at (g (suc k) (omega arith))))
-
--- ---- a text that is not faulty is good at each index, so it is steps behind no sign
-each-good : (t : List ℕ) → faulty t ≡ false → (k : ℕ) → k < length t → goodAt t k ≡ true
-unfolding faulty firstFault
-each-good t g k l = first-bad-before (length t) (goodAt t) k (omega (arith, ltb-false (firstBad (length t) (goodAt t)) (length t) g))
-
-pub fault-at : (t : List ℕ) (k : ℕ) → k < length t → goodAt t k ≡ false → faulty t ≡ true
-fault-at t k l e = go (faulty t) refl
-  where
-    go : (f : Bool) → faulty t ≡ f → f ≡ true
-    go true g = refl
-    go false g = absurd (true≢false (sym (each-good t g k l) ∙ e))
-
-pub good-stepping : (t : List ℕ) → faulty t ≡ false → Stepping none t
-unfolding goodAt
-good-stepping t g = good-steps none t (λ k l. rw (sign-from-none t k) at (each-good t g k l))
-
 -- ---- the first nonzero digit decides the sign of what a text is worth
 pub leads : (t : List ℕ) (m : ℕ) → m < length t → ((i : ℕ) → i < m → getD t i none ≡ none) → (getD t m none ≡ plus → down (textValue t) < up (textValue t)) × (getD t m none ≡ minus → up (textValue t) < down (textValue t))
 unfolding digitOf
@@ -204,6 +89,9 @@ leads (b ∷ t) (suc m) l z =
     rw (z zero (omega arith)) (λ e. omega (arith, rest .0 e), λ e. omega (arith, rest .1 e))
 
 -- ---- where the bit above a text is that of the sign before it, the last sign gives the bit below it
+abbrev pub plusBit : ℕ → ℕ
+plusBit s = cond (eqb s plus) 1 0
+
 step-bit : (s c b : ℕ) → c ≤ 1 → b ≤ 1 → plusBit s ≡ b → plusBit (after s (byteOf (pos c -ℤ pos b))) ≡ c
 unfolding byteOf
 step-bit s = both-bits (λ c b. plusBit s ≡ b → plusBit (after s (byteOf (pos c -ℤ pos b))) ≡ c) (λ e. e) (λ e. refl) (λ e. refl) (λ e. e)

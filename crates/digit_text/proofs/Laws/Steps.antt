@@ -2,22 +2,19 @@
 use Prim.Native.Nat.{ℕ, zero, suc, _+_, _-_, _*_, _^_, _≤_, _<_}
 use native.Mathlib.Nat.{pow-succ', mul-le-mul-right, not-suc-le-zero}
 use native.Mathlib.Omega.{arith}
-use mathlib.Core.Path.{_≡_, refl, sym, ap, _∙_}
-use mathlib.Core.Bool.{Bool, true, false, cond}
-use mathlib.Core.List.{List, [], _∷_, _++_}
-use lib.Dec.{eqb}
-use lib.IntN.{ℤ, pos, negsuc, negℤ, natAbs, _+ℤ_, _-ℤ_, _*ℤ_, zero-*ℤ, +ℤ-idl, +ℤ-assoc}
-use lib.ListN.{length, take, drop, length-append, length-drop, take-append-drop}
-use lib.Pow.{pow-add}
+use mathlib.Core.Path.{_≡_, refl, ap, _∙_}
+use mathlib.Core.List.{List, [], _∷_}
+use lib.IntN.{ℤ, pos, negℤ, natAbs, _-ℤ_, _*ℤ_}
+use lib.ListN.{length, take, drop, length-drop, take-append-drop}
 use lib.Signed.{mag}
 use Rattle.integers.specs.Numbers.{floorBy, digit, digitsBelow}
-use Rattle.integers.proofs.Kit.{up, down, ints, plus-law, minus-law, neg-law, times-law, size-range, by-size, by-abs}
-use Rattle.integers.proofs.Times.{plus-times, times-assoc}
+use Rattle.integers.proofs.Kit.{up, down, ints, plus-law, minus-law, neg-law, times-law, size-range, by-size, by-abs, abs-law}
 use Rattle.integers.proofs.Floor.{floor-only}
 use Rattle.integers.proofs.Digits.{digit-le, both-bits, split-digit}
 use Rattle.integers.proofs.LowDigits.{below-law, below-more, below-range}
 use Rattle.words.specs.declared.RoundBit.{RoundBit}
-use Rattle.digit_text.specs.Digits.{plus, minus, byteOf, digitOf, textValue}
+use Rattle.digit_text.specs.Digits.{byteOf, digitOf, textValue}
+use Rattle.digit_text.proofs.Scan.{value-append, value-range}
 
 -- ---- what a text is worth: nothing, a byte more, and in two parts
 pub nothing-worth : textValue [] ≡ pos 0
@@ -29,15 +26,6 @@ unfolding textValue
 cons-law b t =
     let p = pos (2 ^ length t) in omega (arith, plus-law (digitOf b *ℤ p) (textValue t), times-law (digitOf b) p)
 
-value-append : (s t : List ℕ) → textValue (s ++ t) ≡ (textValue s *ℤ pos (2 ^ length t)) +ℤ textValue t
-unfolding textValue
-value-append [] t = rw (zero-*ℤ, +ℤ-idl)
-value-append (b ∷ s) t =
-    let p = pos (2 ^ length s) in
-    let q = pos (2 ^ length t) in
-    rw (length-append s t, pow-add 2 (length s) (length t), value-append s t, plus-times (digitOf b *ℤ p) (textValue s) q, times-assoc (digitOf b) p q)
-    (sym (+ℤ-assoc (digitOf b *ℤ (p *ℤ q)) (textValue s *ℤ q) (textValue t)))
-
 -- cutting off the last k bytes moves the value by what they are worth
 pub cut-off : (t : List ℕ) (k : ℕ) → k ≤ length t → textValue t -ℤ (textValue (take (length t - k) t) *ℤ pos (2 ^ k)) ≡ textValue (drop (length t - k) t)
 cut-off t k h =
@@ -47,22 +35,9 @@ cut-off t k h =
     let split = rw (take-append-drop j t, rest) at (value-append (take j t) (drop j t)) in
     omega (ints, split, plus-law x (textValue (drop j t)), minus-law (textValue t) x)
 
-digit-size : (b : ℕ) → (up (digitOf b) ≤ 1) × (down (digitOf b) ≤ 1)
-unfolding digitOf
-digit-size b = go (eqb b plus) (eqb b minus)
-  where
-    go : (p m : Bool) → (up (cond p (pos 1) (cond m (negsuc 0) (pos 0))) ≤ 1) × (down (cond p (pos 1) (cond m (negsuc 0) (pos 0))) ≤ 1)
-    go true m = omega arith
-    go false true = omega arith
-    go false false = omega arith
-
 -- n bytes are worth less than 2 ^ n, either way
 pub value-small : (t : List ℕ) → (up (textValue t) < 2 ^ length t + down (textValue t)) × (down (textValue t) < 2 ^ length t + up (textValue t))
-value-small [] = rw nothing-worth (omega arith)
-value-small (b ∷ t) =
-    let d = digit-size b in
-    let p = 2 ^ length t in
-    omega (arith, value-small t, cons-law b t, mul-le-mul-right {m = up (digitOf b)} {n = 1} p (d .0), mul-le-mul-right {m = down (digitOf b)} {n = 1} p (d .1), pow-succ' 2 (length t))
+value-small t = omega (arith, value-range t, abs-law (textValue t))
 
 -- ---- the digits of a text as the steps of bits: each is the bit below it less the bit above it. b is the bit above the text, r the one
 -- below it

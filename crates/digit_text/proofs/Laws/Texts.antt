@@ -28,7 +28,7 @@ use Rattle.round_bit.proofs.Laws.Widenings.{widen-done, widen-tells, widen-cut-
 use Rattle.digit_text.specs.Digits.{plus, none, minus, signedDigit, byteOf, byteAt, text, textValue}
 use Rattle.digit_text.specs.Reading.{firstFault}
 use Rattle.digit_text.proofs.Laws.Steps.{bitBelow, digitsText, bit-below-le, digits-length, digits-steps, digits-value}
-use Rattle.digit_text.proofs.Laws.Signs.{steps-no-fault}
+use Rattle.digit_text.proofs.Laws.GoodTexts.{steps-no-fault}
 
 -- ---- a text is the steps of its word's bits
 signed-digit-is : (x : RoundBit) (i : ℕ) → signedDigit x i ≡ pos (bitBelow x i) -ℤ pos (digit (x .0) i)
