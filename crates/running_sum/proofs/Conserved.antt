@@ -1,15 +1,11 @@
 -- Why nothing creeps: one call of a running sum, and any list of calls. Assumes nothing.
-use Prim.Native.Nat.{ℕ, zero, suc, _-_, _^_, _≤_}
-use native.Mathlib.Omega.{arith}
+use Prim.Native.Nat.{ℕ, _^_, _≤_}
 use mathlib.Core.Path.{_≡_, refl, sym, ap, _∙_}
-use mathlib.Core.List.{List, [], _∷_}
-use lib.Pow.{pow-pos}
 use lib.IntN.{ℤ, pos, natAbs, _+ℤ_, _-ℤ_, _*ℤ_, +ℤ-idr, +ℤ-idl}
 use Rattle.integers.proofs.Kit.{ints, plus-law, minus-law, times-law}
 use Rattle.words.specs.Refusals.{_orElse_, differ, refuseFor, blankFormat}
 use Rattle.words.specs.Words.{value}
-use Rattle.words.specs.Formats.{narrower, narrowerCheck}
-use Rattle.words.specs.RoundBit.{roundBitValue, roundBitCheck, roundBitDone, roundBitFitted}
+use Rattle.words.specs.RoundBit.{roundBitValue, roundBitCheck}
 use Rattle.words.specs.declared.Cause.{Cause}
 use Rattle.words.specs.declared.Cause.the-variants.{Mismatch}
 use Rattle.words.specs.declared.Format.{Format}
@@ -17,18 +13,24 @@ use Rattle.words.specs.declared.Outcome.{Outcome}
 use Rattle.words.specs.declared.Outcome.the-variants.{Done, Refused}
 use Rattle.words.specs.declared.RoundBitWord.{RoundBitWord}
 use Rattle.words.specs.declared.RoundBitAnswer.{RoundBitAnswer}
-use Rattle.words.proofs.Laws.{refused-not-done, both-passed, passed, round-bit-right, round-bit-passes}
+use Rattle.words.proofs.Laws.{refused-not-done, both-passed, three-passed, passed, round-bit-right, round-bit-passes}
 use Rattle.words.proofs.Operands.{same-format}
-use Rattle.round_bit.specs.Cuts.{cutAnswer, cutOf, restWord, restOf}
-use Rattle.round_bit.specs.Sums.{sumWord, sumOf}
-use Rattle.round_bit.proofs.Laws.Cuts.{cut-done, cut-format, rest-done, rest-closed, rest-refuses, rest-value, rest-small}
-use Rattle.round_bit.proofs.Laws.Sums.{sum-done, sum-closed, sum-value}
+use Rattle.words.proofs.Rights.{nothing-right}
+use Rattle.round_bit.specs.Cuts.{cutAnswer, cutOf, restOf}
+use Rattle.round_bit.specs.Sums.{sumOf}
+use Rattle.round_bit.proofs.Laws.Cuts.{cut-done, cut-format, rest-format, rest-done, rest-closed, rest-refuses, rest-value, rest-small}
+use Rattle.round_bit.proofs.Laws.Sums.{sum-format, sum-done, sum-closed, sum-value}
 use Rattle.running_sum.specs.declared.RunningSum.{RunningSum}
 use Rattle.running_sum.specs.Steps.{blank, nothing, depthCheck, Call, put, handOut, empty, Step, keeping, stepped, sumCheck, putCheck, stepOf}
 use Rattle.running_sum.proofs.Checks.{depth-passed}
-use Rattle.running_sum.specs.Totals.{Answered, coarser, amount, takenIn, givenOut, accepted, handedOut}
+use Rattle.running_sum.specs.Totals.{amount, takenIn, givenOut}
 
--- ---- a step by its outcome
+-- ---- a step by its outcome: what holds of the done step if its check passed, and of every refusal, holds of it
+by-outcome : (Q : Step → Type 0) (o : Outcome) (w : RoundBitWord) (new old : RunningSum) → (o ≡ Done → Q (record { outcome = Done; word = w; sum = new })) → ((c : Cause) → Q (record { outcome = Refused c; word = blank; sum = old })) → Q (stepped o w new old)
+unfolding stepped
+by-outcome Q Done w new old f g = f refl
+by-outcome Q (Refused c) w new old f g = g c
+
 refused-step : (o : Outcome) (w : RoundBitWord) (new old : RunningSum) (r : Cause) → stepped o w new old .outcome ≡ Refused r → (stepped o w new old .sum ≡ old) × (stepped o w new old .word ≡ blank)
 unfolding stepped
 refused-step Done w new old r e = absurd (refused-not-done (sym e))
@@ -39,9 +41,10 @@ unfolding stepped
 step-outcome Done w new old = refl
 step-outcome (Refused c) w new old = refl
 
-done-sum : (o : Outcome) (w : RoundBitWord) (new old : RunningSum) → o ≡ Done → stepped o w new old .sum ≡ new
+done-step : (o : Outcome) (w : RoundBitWord) (new old : RunningSum) → stepped o w new old .outcome ≡ Done → (o ≡ Done) × (stepped o w new old .sum ≡ new)
 unfolding stepped
-done-sum o w new old c = rw c
+done-step Done w new old e = (refl, refl)
+done-step (Refused c) w new old e = absurd (refused-not-done e)
 
 -- ---- 0. a refused call leaves the sum as it was and hands back the blank word, of any sum at all
 pub refused-unchanged : (s : RunningSum) (c : Call) (r : Cause) → stepOf s c .outcome ≡ Refused r → (stepOf s c .sum ≡ s) × (stepOf s c .word ≡ blank)
@@ -68,22 +71,12 @@ unfolding value
 nothing-value f = refl
 
 -- ---- what a done call tells
-sum-format : (x y : RoundBitWord) → sumWord x y .format ≡ x .format
-unfolding sumWord
-sum-format x y = refl
-
-rest-format : (w : RoundBitWord) (d : ℕ) → restWord w d .format ≡ w .format
-unfolding restWord
-rest-format w zero = refl
-rest-format w (suc k) = refl
-
 put-tells : (s : RunningSum) (w : RoundBitWord) → (putCheck s w orElse sumOf (s .kept) w .outcome) ≡ Done → (sumOf (s .kept) w .outcome ≡ Done) × (s .kept .format ≡ w .format)
 unfolding putCheck
 put-tells s w e =
     let p = both-passed (putCheck s w) (sumOf (s .kept) w .outcome) e in
-    let q = both-passed (roundBitCheck (s .kept)) _ (p .0) in
-    let r = both-passed (roundBitCheck w) _ (q .1) in
-    let t = both-passed (refuseFor Mismatch (differ (s .kept .format) (w .format))) _ (r .1) in
+    let q = three-passed (roundBitCheck (s .kept)) (roundBitCheck w) _ (p .0) in
+    let t = both-passed (refuseFor Mismatch (differ (s .kept .format) (w .format))) _ (q .2) in
     (p .1, same-format (s .kept .format) (w .format) (passed Mismatch _ (t .0)))
 
 pub sum-tells : (s : RunningSum) → sumCheck s ≡ Done → cutOf (s .kept) (s .depth) .outcome ≡ Done
@@ -93,21 +86,24 @@ sum-tells s e =
     rw (p .0, depth-passed (s .kept .format) (s .depth) (p .1))
 
 -- ---- 1. for one call: what was kept and what goes in is what comes out and what is kept then
+abbrev Balances : RunningSum → Call → Step → Type 0
+Balances s c t =
+    takenIn (s .kept .format .unit) c (t .outcome) +ℤ roundBitValue (s .kept) ≡ givenOut (s .kept .format .unit) c (t .outcome) (t .word) +ℤ roundBitValue (t .sum .kept)
+
 pub step-conserves : (s : RunningSum) (c : Call) → let t = stepOf s c in takenIn (s .kept .format .unit) c (t .outcome) +ℤ roundBitValue (s .kept) ≡ givenOut (s .kept .format .unit) c (t .outcome) (t .word) +ℤ roundBitValue (t .sum .kept)
-unfolding stepOf stepped takenIn givenOut
-step-conserves s (put w) = go (putCheck s w orElse sumOf (s .kept) w .outcome) refl
+unfolding stepOf takenIn givenOut
+step-conserves s (put w) = by-outcome (Balances s (put w)) _ _ _ _ done (λ c. refl)
   where
     a : RoundBitAnswer
     a = sumOf (s .kept) w
 
-    go : (o : Outcome) → (putCheck s w orElse sumOf (s .kept) w .outcome) ≡ o → let t = stepped o blank (keeping s (a .word)) s in takenIn (s .kept .format .unit) (put w) (t .outcome) +ℤ roundBitValue (s .kept) ≡ givenOut (s .kept .format .unit) (put w) (t .outcome) (t .word) +ℤ roundBitValue (t .sum .kept)
-    go Done e =
+    done : (putCheck s w orElse a .outcome) ≡ Done → Balances s (put w) (record { outcome = Done; word = blank; sum = keeping s (a .word) })
+    done e =
         let p = put-tells s w e in
         let v = roundBitValue (s .kept) in
         rw (amount-own (s .kept .format .unit) w (ap (λ (f : Format). f .unit) (sym (p .1))))
         (omega (ints, sum-value (s .kept) w (p .0), plus-law v (roundBitValue w), plus-law (roundBitValue w) v, plus-law (pos 0) (roundBitValue (a .word))))
-    go (Refused c) e = refl
-step-conserves s handOut = go (sumCheck s) refl
+step-conserves s handOut = by-outcome (Balances s handOut) _ _ _ _ done (λ c. refl)
   where
     d : ℕ
     d = s .depth
@@ -115,86 +111,57 @@ step-conserves s handOut = go (sumCheck s) refl
     cut : RoundBitWord
     cut = cutOf (s .kept) d .word
 
-    rest : RoundBitWord
-    rest = restOf (s .kept) d .word
-
-    go : (o : Outcome) → sumCheck s ≡ o → let t = stepped o cut (keeping s rest) s in takenIn (s .kept .format .unit) handOut (t .outcome) +ℤ roundBitValue (s .kept) ≡ givenOut (s .kept .format .unit) handOut (t .outcome) (t .word) +ℤ roundBitValue (t .sum .kept)
-    go Done e =
+    done : sumCheck s ≡ Done → Balances s handOut (record { outcome = Done; word = cut; sum = keeping s (restOf (s .kept) d .word) })
+    done e =
         let c = sum-tells s e in
         let u = cut-done (s .kept) d c .1 in
         rw (amount-coarse (s .kept .format .unit) cut d (ap (λ (w : RoundBitWord). w .format .unit) u ∙ ap (λ (f : Format). f .unit) (cut-format (s .kept) d)), +ℤ-idl (roundBitValue (s .kept)))
         (sym (rest-value (s .kept) d c))
-    go (Refused c) e = refl
-step-conserves s empty = go (sumCheck s) refl
-  where
-    go : (o : Outcome) → sumCheck s ≡ o → let t = stepped o (s .kept) (keeping s (nothing (s .kept .format))) s in takenIn (s .kept .format .unit) empty (t .outcome) +ℤ roundBitValue (s .kept) ≡ givenOut (s .kept .format .unit) empty (t .outcome) (t .word) +ℤ roundBitValue (t .sum .kept)
-    go Done e = rw (amount-own (s .kept .format .unit) (s .kept) refl, nothing-value (s .kept .format), +ℤ-idl, +ℤ-idr)
-    go (Refused c) e = refl
+step-conserves s empty =
+    by-outcome (Balances s empty) _ _ _ _ (λ e. rw (amount-own (s .kept .format .unit) (s .kept) refl, nothing-value (s .kept .format), +ℤ-idl, +ℤ-idr)) (λ c. refl)
 
 -- format and depth never change
+abbrev Unchanged : RunningSum → Step → Type 0
+Unchanged s t = (t .sum .kept .format ≡ s .kept .format) × (t .sum .depth ≡ s .depth)
+
 pub step-format : (s : RunningSum) (c : Call) → (stepOf s c .sum .kept .format ≡ s .kept .format) × (stepOf s c .sum .depth ≡ s .depth)
-unfolding stepOf stepped
-step-format s (put w) = go (putCheck s w orElse sumOf (s .kept) w .outcome) refl
-  where
-    go : (o : Outcome) → (putCheck s w orElse sumOf (s .kept) w .outcome) ≡ o → let t = stepped o blank (keeping s (sumOf (s .kept) w .word)) s in (t .sum .kept .format ≡ s .kept .format) × (t .sum .depth ≡ s .depth)
-    go Done e = (ap (λ (a : RoundBitAnswer). a .word .format) (sum-done (s .kept) w (put-tells s w e .0)) ∙ sum-format (s .kept) w, refl)
-    go (Refused c) e = (refl, refl)
-step-format s handOut = go (sumCheck s) refl
-  where
-    go : (o : Outcome) → sumCheck s ≡ o → let t = stepped o (cutOf (s .kept) (s .depth) .word) (keeping s (restOf (s .kept) (s .depth) .word)) s in (t .sum .kept .format ≡ s .kept .format) × (t .sum .depth ≡ s .depth)
-    go Done e = (ap (λ (w : RoundBitWord). w .format) (rest-done (s .kept) (s .depth) (rest-refuses (s .kept) (s .depth) ∙ sum-tells s e) .1) ∙ rest-format (s .kept) (s .depth), refl)
-    go (Refused c) e = (refl, refl)
-step-format s empty = go (sumCheck s) refl
-  where
-    go : (o : Outcome) → sumCheck s ≡ o → let t = stepped o (s .kept) (keeping s (nothing (s .kept .format))) s in (t .sum .kept .format ≡ s .kept .format) × (t .sum .depth ≡ s .depth)
-    go Done e = (refl, refl)
-    go (Refused c) e = (refl, refl)
+unfolding stepOf
+step-format s (put w) =
+    by-outcome (Unchanged s) _ _ _ _
+    (λ e. (ap (λ (a : RoundBitAnswer). a .word .format) (sum-done (s .kept) w (put-tells s w e .0)) ∙ sum-format (s .kept) w, refl))
+    (λ c. (refl, refl))
+step-format s handOut =
+    by-outcome (Unchanged s) _ _ _ _
+    (λ e. (ap (λ (w : RoundBitWord). w .format) (rest-done (s .kept) (s .depth) (rest-refuses (s .kept) (s .depth) ∙ sum-tells s e) .1) ∙ rest-format (s .kept) (s .depth), refl))
+    (λ c. (refl, refl))
+step-format s empty = by-outcome (Unchanged s) _ _ _ _ (λ e. (refl, refl)) (λ c. (refl, refl))
 
 -- a put hands back no word
 pub put-blank : (s : RunningSum) (w : RoundBitWord) → stepOf s (put w) .word ≡ blank
-unfolding stepOf stepped
-put-blank s w = go (putCheck s w orElse sumOf (s .kept) w .outcome)
-  where
-    go : (o : Outcome) → stepped o blank (keeping s (sumOf (s .kept) w .word)) s .word ≡ blank
-    go Done = refl
-    go (Refused c) = refl
+unfolding stepOf
+put-blank s w = by-outcome (λ t. t .word ≡ blank) _ _ _ _ (λ e. refl) (λ c. refl)
 
 -- ---- 2. right after a done hand-out what is kept is at most half a coarse unit
 pub hand-out-small : (s : RunningSum) → stepOf s handOut .outcome ≡ Done → natAbs (roundBitValue (stepOf s handOut .sum .kept)) ≤ 2 ^ s .depth
 unfolding stepOf
-hand-out-small s e =
-    let c = sym (step-outcome _ _ _ _) ∙ e in
-    let new = keeping s (restOf (s .kept) (s .depth) .word) in
-    rw (done-sum (sumCheck s) (cutOf (s .kept) (s .depth) .word) new s c) (rest-small (s .kept) (s .depth) (sum-tells s c))
+hand-out-small s e = let c = done-step _ _ _ _ e in rw (c .1) (rest-small (s .kept) (s .depth) (sum-tells s (c .0)))
 
 -- ---- 3. and right after a done emptying it is nothing
 pub empty-nothing : (s : RunningSum) → stepOf s empty .outcome ≡ Done → roundBitValue (stepOf s empty .sum .kept) ≡ pos 0
 unfolding stepOf
-empty-nothing s e =
-    let c = sym (step-outcome _ _ _ _) ∙ e in
-    let new = keeping s (nothing (s .kept .format)) in
-    rw (done-sum (sumCheck s) (s .kept) new s c) (nothing-value (s .kept .format))
+empty-nothing s e = rw (done-step _ _ _ _ e .1) (nothing-value (s .kept .format))
 
 -- ---- 4. a sum that passes its check passes it after every call
-kept-right : (s : RunningSum) (c : Call) → roundBitCheck (s .kept) ≡ Done → roundBitCheck (stepOf s c .sum .kept) ≡ Done
-unfolding stepOf stepped
-kept-right s (put w) k = go (putCheck s w orElse sumOf (s .kept) w .outcome) refl
-  where
-    go : (o : Outcome) → (putCheck s w orElse sumOf (s .kept) w .outcome) ≡ o → roundBitCheck (stepped o blank (keeping s (sumOf (s .kept) w .word)) s .sum .kept) ≡ Done
-    go Done e = sum-closed (s .kept) w (put-tells s w e .0)
-    go (Refused c) e = k
-kept-right s handOut k = go (sumCheck s) refl
-  where
-    go : (o : Outcome) → sumCheck s ≡ o → roundBitCheck (stepped o (cutOf (s .kept) (s .depth) .word) (keeping s (restOf (s .kept) (s .depth) .word)) s .sum .kept) ≡ Done
-    go Done e = rest-closed (s .kept) (s .depth) (rest-refuses (s .kept) (s .depth) ∙ sum-tells s e)
-    go (Refused c) e = k
-kept-right s empty k = go (sumCheck s)
-  where
-    go : (o : Outcome) → roundBitCheck (stepped o (s .kept) (keeping s (nothing (s .kept .format))) s .sum .kept) ≡ Done
-    go Done =
-        let g = round-bit-right (s .kept) k in
-        round-bit-passes (nothing (s .kept .format)) (record { format = g .format; size = pow-pos (s .kept .format .width - 1); bit = omega arith })
-    go (Refused c) = k
+abbrev Kept : Step → Type 0
+Kept t = roundBitCheck (t .sum .kept) ≡ Done
+
+kept-right : (s : RunningSum) (c : Call) → roundBitCheck (s .kept) ≡ Done → Kept (stepOf s c)
+unfolding stepOf
+kept-right s (put w) k = by-outcome Kept _ _ _ _ (λ e. sum-closed (s .kept) w (put-tells s w e .0)) (λ c. k)
+kept-right s handOut k =
+    by-outcome Kept _ _ _ _ (λ e. rest-closed (s .kept) (s .depth) (rest-refuses (s .kept) (s .depth) ∙ sum-tells s e)) (λ c. k)
+kept-right s empty k =
+    by-outcome Kept _ _ _ _ (λ e. round-bit-passes (nothing (s .kept .format)) (nothing-right (round-bit-right (s .kept) k .format))) (λ c. k)
 
 pub step-keeps : (s : RunningSum) (c : Call) → sumCheck s ≡ Done → sumCheck (stepOf s c .sum) ≡ Done
 step-keeps s c e =
@@ -209,13 +176,12 @@ shut = record { kept = blank; depth = 0 }
 shut-outcome : (c : Call) → stepOf shut c .outcome ≡ Done → ⊥
 unfolding stepOf putCheck depthCheck
 shut-outcome (put w) e =
-    let p = both-passed (putCheck shut w) _ (sym (step-outcome _ _ _ _) ∙ e) in
-    let q = both-passed (roundBitCheck blank) _ (p .0) in
-    let r = both-passed (roundBitCheck w) _ (q .1) in
-    let t = both-passed (refuseFor Mismatch (differ blankFormat (w .format))) (depthCheck blankFormat 0) (r .1) in
+    let p = both-passed (putCheck shut w) _ (done-step _ _ _ _ e .0) in
+    let q = three-passed (roundBitCheck blank) (roundBitCheck w) _ (p .0) in
+    let t = both-passed (refuseFor Mismatch (differ blankFormat (w .format))) (depthCheck blankFormat 0) (q .2) in
     refused-not-done (t .1)
-shut-outcome handOut e = refused-not-done (both-passed (roundBitCheck blank) (depthCheck blankFormat 0) (sym (step-outcome _ _ _ _) ∙ e) .1)
-shut-outcome empty e = refused-not-done (both-passed (roundBitCheck blank) (depthCheck blankFormat 0) (sym (step-outcome _ _ _ _) ∙ e) .1)
+shut-outcome handOut e = refused-not-done (both-passed (roundBitCheck blank) (depthCheck blankFormat 0) (done-step _ _ _ _ e .0) .1)
+shut-outcome empty e = refused-not-done (both-passed (roundBitCheck blank) (depthCheck blankFormat 0) (done-step _ _ _ _ e .0) .1)
 
 pub shut-step : (c : Call) → (stepOf shut c .outcome ≡ Done → ⊥) × (stepOf shut c .sum ≡ shut)
 shut-step c = (shut-outcome c, stays (stepOf shut c .outcome) refl)

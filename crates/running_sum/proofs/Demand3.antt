@@ -2,11 +2,9 @@
 -- half a coarse unit. Right after emptying the two totals are equal." For one running sum, from its opening through any calls, refused
 -- ones among them. The totals are in specs/Totals.antt and know nothing of what is kept. Values are in half units of the sum's unit, so
 -- half a coarse unit is 2 ^ depth. Assumes nothing.
-use Prim.Native.Nat.{ℕ, _-_, _^_, _≤_}
-use native.Mathlib.Omega.{arith}
+use Prim.Native.Nat.{ℕ, _^_, _≤_}
 use mathlib.Core.Path.{_≡_, refl, sym, ap, _∙_, subst}
 use mathlib.Core.List.{List, [], _∷_, _++_}
-use lib.Pow.{pow-pos}
 use lib.IntN.{ℤ, pos, natAbs, _+ℤ_, _-ℤ_, +ℤ-idr}
 use Rattle.integers.proofs.Kit.{ints, plus-law, minus-law}
 use Rattle.words.specs.Words.{value}
@@ -16,11 +14,12 @@ use Rattle.words.specs.RoundBit.{roundBitValue}
 use Rattle.words.specs.declared.Format.{Format}
 use Rattle.words.specs.declared.Outcome.{Outcome}
 use Rattle.words.specs.declared.Outcome.the-variants.{Done, Refused}
-use Rattle.words.proofs.Laws.{both-passed, Right, right-format, round-bit-passes}
+use Rattle.words.proofs.Laws.{both-passed, right-format, round-bit-passes}
+use Rattle.words.proofs.Rights.{nothing-right}
 use Rattle.running_sum.specs.declared.RunningSum.{RunningSum}
 use Rattle.running_sum.specs.Steps.{nothing, depthCheck, openCheck, openAnswer, openOf, Call, handOut, empty, sumCheck, stepOf}
-use Rattle.running_sum.specs.Totals.{Answered, takenIn, givenOut, accepted, handedOut}
-use Rattle.running_sum.specs.Runs.{answeredBy, answered, left}
+use Rattle.running_sum.specs.Totals.{takenIn, givenOut, accepted, handedOut}
+use Rattle.running_sum.specs.Runs.{answered, left}
 use Rattle.running_sum.specs.Demand3.{Demand3}
 use Rattle.running_sum.proofs.Conserved.{step-conserves, step-format, step-keeps, hand-out-small, empty-nothing, shut-step, shut}
 
@@ -81,8 +80,7 @@ opened-passes : (f : Format) (d : ℕ) → openCheck f d ≡ Done → sumCheck (
 unfolding openAnswer
 opened-passes f d e =
     let p = both-passed (formatCheck f) (depthCheck f d) e in
-    let g : Right f (pos 0) 0 = record { format = right-format f (p .0); size = pow-pos (f .width - 1); bit = omega arith } in
-    rw (round-bit-passes (nothing f) g) (p .1)
+    rw (round-bit-passes (nothing f) (nothing-right (right-format f (p .0)))) (p .1)
 
 opened-outcome : (o : Outcome) (f : Format) (d : ℕ) → openAnswer o f d .outcome ≡ o
 unfolding openAnswer

@@ -1,9 +1,9 @@
--- What stays right: a sign change, a floor, the low digits, a widening and a doubling of a right number, and its lowest digit cleared. Assumes nothing.
+-- What is right: 0, and what stays right: a sign change, a floor, the low digits, a widening and a doubling of a right number, and its lowest digit cleared. Assumes nothing.
 use Prim.Native.Nat.{ℕ, suc, _+_, _-_, _*_, _^_, _≤_}
 use native.Mathlib.Omega.{arith}
 use native.Mathlib.Nat.{lt-of-lt-of-le}
 use mathlib.Core.Path.{_≡_}
-use lib.Pow.{pow-mono}
+use lib.Pow.{pow-mono, pow-pos}
 use lib.IntN.{ℤ, pos, _+ℤ_, _*ℤ_}
 use Rattle.integers.specs.Numbers.{turned, floorBy, cleared, lowDigits}
 use Rattle.integers.proofs.Floor.{turned-size, floor-range}
@@ -15,6 +15,10 @@ use Rattle.words.specs.declared.Outcome.the-variants.{Done}
 use Rattle.words.specs.declared.Format.{Format}
 use Rattle.words.proofs.Laws.{RightFormat, Right}
 use Rattle.words.proofs.Formats.{digits-left, narrower-right}
+
+-- ---- 0 is right in every right format
+pub nothing-right : {f : Format} → RightFormat f → Right f (pos 0) 0
+nothing-right {f} g = record { format = g; size = pow-pos (f .width - 1); bit = omega arith }
 
 -- ---- -1 - x, a floor and the low digits of a right number are right with any round bit, and so is the number widened with its own
 pub turned-right : {f : Format} {x : ℤ} {r : ℕ} (s : ℕ) → Right f x r → s ≤ 1 → Right f (turned x) s

@@ -1,9 +1,8 @@
 -- Cut and rest: what they do to values, and to each other. Assumes nothing.
-use Prim.Native.Nat.{ℕ, zero, suc, _+_, _-_, _^_, _≤_}
+use Prim.Native.Nat.{ℕ, zero, suc, _+_, _^_, _≤_}
 use native.Mathlib.Nat.{zero-add, add-zero, pow-succ'}
 use native.Mathlib.Omega.{arith}
 use mathlib.Core.Path.{_≡_, refl, sym, ap, _∙_}
-use lib.Pow.{pow-pos}
 use lib.IntN.{pos, natAbs, _+ℤ_, _-ℤ_, _*ℤ_}
 use Rattle.integers.specs.Numbers.{floorBy, digit, lowDigits}
 use Rattle.integers.proofs.Kit.{ints, plus-law, minus-law, times-law, size-range, by-abs, abs-range}
@@ -20,7 +19,7 @@ use Rattle.words.specs.declared.Outcome.the-variants.{Done, Refused}
 use Rattle.words.specs.declared.RoundBitWord.{RoundBitWord}
 use Rattle.words.proofs.Laws.{both-pass, RightRoundBit, round-bit-right, round-bit-passes, round-bit-law}
 use Rattle.words.proofs.Formats.{narrower-none, narrower-passes, narrower-first, narrower-then, narrower-narrower}
-use Rattle.words.proofs.Rights.{floor-right, low-right}
+use Rattle.words.proofs.Rights.{nothing-right, floor-right, low-right}
 use Rattle.round_bit.specs.Cuts.{signChangeWord, cutWord, cutCheck, cutAnswer, cutOf, restWord, restOf}
 use Rattle.words.proofs.Operands.{outcome-kept}
 use Rattle.round_bit.proofs.Checks.{word-done, cut-passed}
@@ -57,7 +56,7 @@ cut-closed w d e = let c = cut-done w d e in rw (c .1) (round-bit-passes _ (cut-
 
 rest-right : (w : RoundBitWord) (d : ℕ) → cutCheck w d ≡ Done → RightRoundBit (restWord w d)
 unfolding restWord
-rest-right w zero c = record { format = cut-tells w zero c .0 .format; size = pow-pos (w .format .width - 1); bit = omega arith }
+rest-right w zero c = nothing-right (cut-tells w zero c .0 .format)
 rest-right w (suc k) c = let t = cut-tells w (suc k) c in low-right k (w .number .1) (t .0) (t .1) (t .0 .bit)
 
 pub rest-closed : (w : RoundBitWord) (d : ℕ) → restOf w d .outcome ≡ Done → roundBitCheck (restOf w d .word) ≡ Done
@@ -103,12 +102,18 @@ cut-none w e =
     let g = round-bit-right w e in
     rw (cut-passes w 0 g (narrower-passes (w .format) 0 (g .format) (rw (narrower-none (w .format)) (g .format))))
 
--- a cut after a cut is one cut
+-- the formats of the two words
 pub cut-format : (w : RoundBitWord) (d : ℕ) → cutWord w d .format ≡ narrower (w .format) d
 unfolding cutWord
 cut-format w zero = sym (narrower-none (w .format))
 cut-format w (suc k) = refl
 
+pub rest-format : (w : RoundBitWord) (d : ℕ) → restWord w d .format ≡ w .format
+unfolding restWord
+rest-format w zero = refl
+rest-format w (suc k) = refl
+
+-- a cut after a cut is one cut
 cut-word-twice : (w : RoundBitWord) (a b : ℕ) → cutWord (cutWord w a) b ≡ cutWord w (a + b)
 unfolding cutWord
 cut-word-twice w zero b = ap (cutWord w) (sym (zero-add b))

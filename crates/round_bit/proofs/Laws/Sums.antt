@@ -16,6 +16,7 @@ use Rattle.words.specs.declared.Outcome.the-variants.{Done}
 use Rattle.words.specs.declared.RoundBit.{RoundBit}
 use Rattle.words.specs.declared.RoundBitWord.{RoundBitWord}
 use Rattle.words.proofs.Laws.{Right, right, word-right}
+use Rattle.words.proofs.Rights.{nothing-right}
 use Rattle.words.proofs.Operands.{operands-right, right-operands, fit-passes, done-fits}
 use Rattle.round_bit.specs.Cuts.{signChangeWord}
 use Rattle.round_bit.specs.Sums.{added, sumWord, sumCheck, sumOf, differenceOf}
@@ -70,6 +71,10 @@ module _ (x y z : RoundBitWord) (done : (sumCheck x y andThen roundBitFitted (su
       rw (answer-is-word, added-value (x .number) (z .number))
       (times-plus (pos 2) (x .number .0 +ℤ pos (x .number .1)) (z .number .0 +ℤ pos (z .number .1)))
 
+pub sum-format : (x y : RoundBitWord) → sumWord x y .format ≡ x .format
+unfolding sumWord
+sum-format x y = refl
+
 pub sum-done : (x y : RoundBitWord) → sumOf x y .outcome ≡ Done → sumOf x y ≡ roundBitDone (sumWord x y)
 sum-done x y e = answer-is-word x y y e
 
@@ -97,8 +102,7 @@ zero-passes : (w : RoundBitWord) → roundBitCheck w ≡ Done → sumCheck w (ro
 unfolding roundBitCheck
 zero-passes w e =
     let g = right (w .format) (w .number .0) (w .number .1) e in
-    let none : Right (w .format) (pos 0) 0 = record { format = g .format; size = pow-pos (w .format .width - 1); bit = omega arith } in
-    sum-check-asks w (roundBitWord (pos 0) 0 (w .format)) (record { first = g; second = none; same = refl })
+    sum-check-asks w (roundBitWord (pos 0) 0 (w .format)) (record { first = g; second = nothing-right (g .format); same = refl })
 
 pub sum-zero : (w : RoundBitWord) → roundBitCheck w ≡ Done → sumOf w (roundBitWord (pos 0) 0 (w .format)) ≡ roundBitDone w
 unfolding sumWord roundBitCheck
