@@ -138,6 +138,10 @@ unfolding firstBad
 first-bad-none zero good p = refl
 first-bad-none (suc n) good p = rw (p zero (omega arith)) (ap suc (first-bad-none n (λ k. good (suc k)) (λ k l. p (suc k) (omega arith))))
 
+-- a count that has come to n and met none
+pub first-bad-end : (n k : ℕ) (f : ℕ → Bool) → k ≡ n → ((j : ℕ) → j < k → f j ≡ true) → k ≡ firstBad n f
+first-bad-end n k f e h = e ∙ sym (first-bad-none n f (rw e at h))
+
 -- where it is below n the test fails there
 pub first-bad-fails : (n : ℕ) (good : ℕ → Bool) → firstBad n good < n → good (firstBad n good) ≡ false
 unfolding firstBad

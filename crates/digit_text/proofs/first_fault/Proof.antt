@@ -4,7 +4,7 @@ use native.Mathlib.Omega.{arith}
 use mathlib.Core.Path.{_≡_, refl, sym, ap, _∙_}
 use lib.ListN.{length}
 use borrow.Author.Count.{below-none, below-more}
-use Rattle.integers.proofs.Lists.{first-bad-at, first-bad-none}
+use Rattle.integers.proofs.Lists.{first-bad-at, first-bad-end}
 use Rattle.digit_text.specs.Digits.{signBefore}
 use Rattle.digit_text.specs.Reading.{goodAt, firstFault}
 use Rattle.digit_text.proofs.Scan.{sign-next, good-is}
@@ -40,9 +40,7 @@ loop-again c =
 
 returns-2 : tie.Need-returns-2 Inv-loop μ-loop
 unfolding firstFault
-returns-2 c =
-    let e : c .before .loop .k ≡ length (c .before .before .before .args .text .now) = omega arith in
-    e ∙ sym (first-bad-none _ _ (rw e at (c .before .loop .inv .2)))
+returns-2 c = first-bad-end _ _ _ (omega arith) (c .before .loop .inv .2)
 
 pub first-fault-spec : {M : Type 1} → statement M
 first-fault-spec =

@@ -1,12 +1,13 @@
-use Prim.Native.Nat.{_<_, _-_, _^_}
-use mathlib.Core.Path.{_≡_, _∙_, subst}
+use Prim.Native.Nat.{_<_, _^_}
+use mathlib.Core.Path.{_≡_, _∙_}
 use native.Mathlib.Omega.{arith}
 use lib.IntN.{pos, _+ℤ_}
 use mir.Syntax.{w32, w64}
 use mir.Val.{SFits, Fits, toZ}
-use mir.Facts.{toZ-ofZ, toZ-pos, sfits-widen}
+use mir.Facts.{toZ-ofZ, toZ-pos}
 use borrow.Author.Needs.{needs}
 use borrow.Author.Tests.{lt-ltb, le-ltb}
+use Rattle.integers.proofs.Widened.{wide, widened}
 use Rattle.integers.proofs.Kit.{ints, plus-law}
 use Rattle.words.specs.Formats.{narrowerCheck, formatAnswer}
 use Rattle.words.proofs.narrower.Statement.{statement}
@@ -33,10 +34,10 @@ module _ (c : tie.After-struct-told) where
       omega (ints, unit, small, plus-law u (pos d))
 
 cast-placed : tie.Need-cast-placed
-cast-placed c = rw (toZ-ofZ (unit c)) (sfits-widen tt (unit c))
+cast-placed c = wide (unit c)
 
 add-placed : tie.Need-add-placed
-add-placed c = rw (toZ-ofZ (unit c), toZ-ofZ (sfits-widen {w′ = w64} tt (unit c)), depth c) (moved c)
+add-placed c = rw (widened (unit c), depth c) (moved c)
 
 placed-requires : tie.Need-placed-requires
 placed-requires c κs = omega (arith, width c, c .before .before .before .remaining .ensures)
@@ -53,7 +54,7 @@ returns-2 c =
     let b = c .before in
     let h = le-ltb _ 2 (b .before .before .if1 .left) in
     c .placed .ensures
-    ∙ rw (← b .before .before .before .remaining .ensures, h, toZ-ofZ (unit b), toZ-ofZ (sfits-widen {w′ = w64} tt (unit b)), depth b, toZ-ofZ (moved b))
+    ∙ rw (← b .before .before .before .remaining .ensures, h, widened (unit b), depth b, toZ-ofZ (moved b))
 
 pub narrower-spec : {M : Type 1} → statement M
 narrower-spec =

@@ -4,9 +4,10 @@ use native.Mathlib.Omega.{arith}
 use lib.IntN.{pos, _-ℤ_}
 use mir.Syntax.{w32, w64}
 use mir.Val.{SFits, toZ}
-use mir.Facts.{toZ-ofZ, toZ-pos, sfits-widen}
+use mir.Facts.{toZ-ofZ, toZ-pos}
 use borrow.Author.Needs.{needs}
 use borrow.Author.Tests.{lt-ltb}
+use Rattle.integers.proofs.Widened.{wide, widened}
 use Rattle.integers.proofs.Kit.{ints, minus-law}
 use Rattle.words.specs.Formats.{answerCheck, formatAnswer}
 use Rattle.words.proofs.wider.Statement.{statement}
@@ -28,10 +29,10 @@ module _ (c : tie.After-struct-told) where
       omega (ints, unit, minus-law u (pos d))
 
 cast-formed-2 : tie.Need-cast-formed-2
-cast-formed-2 c = rw (toZ-ofZ (unit c)) (sfits-widen tt (unit c))
+cast-formed-2 c = wide (unit c)
 
 sub-formed : tie.Need-sub-formed
-sub-formed c = rw (toZ-ofZ (unit c), toZ-ofZ (sfits-widen {w′ = w64} tt (unit c)), depth c) (moved c)
+sub-formed c = rw (widened (unit c), depth c) (moved c)
 
 returns : tie.Need-returns
 unfolding answerCheck formatAnswer
@@ -43,7 +44,7 @@ returns c =
 returns-2 : tie.Need-returns-2
 returns-2 c =
     let b = c .before in
-    c .formed .ensures ∙ rw (toZ-ofZ (unit b), toZ-ofZ (sfits-widen {w′ = w64} tt (unit b)), depth b, toZ-ofZ (moved b))
+    c .formed .ensures ∙ rw (widened (unit b), depth b, toZ-ofZ (moved b))
 
 pub wider-spec : {M : Type 1} → statement M
 wider-spec =
