@@ -134,7 +134,7 @@ bench =
     ∷ even (plainAt 5 (pos 7)) 1 (flat 0 (pos 3) 0 (5 - 1) (pos 1))
     ∷ [])
     -- P11 half-unit 5+3: up 9, even 8. P12 half-unit 5 times 2 = 27.
-    ∷ (sumUp (half (pos 5)) (half (pos 3)) (done 5 (pos 9) 0) ∷ sumEven (half (pos 5)) (half (pos 3)) (done 5 (pos 8) 1) ∷ [])
+    ∷ (sumUp (half (pos 5)) (half (pos 3)) (done 5 (pos 9) 0) ∷ sumEven (half (pos 5)) (half (pos 3)) (done 5 (pos 8) 0) ∷ [])
     ∷ (halfProduct (half (pos 5)) (half (pos 2)) (flat 0 (pos 27) 0 (5 + 5) (negsuc 0)) ∷ [])
     -- P13 (6,0) even cut by 2 = (1,1); (2,0) gives (0,0).
     ∷ (evenCut (five (pos 6) 0) 2 (flat 0 (pos 1) 1 (5 - 2) (pos 2)) ∷ evenCut (five (pos 2) 0) 2 (flat 0 (pos 0) 0 (5 - 2) (pos 2)) ∷ [])
