@@ -1,14 +1,6 @@
 -- Document 01, "Digit text": the digits, their bytes, and what a text is worth.
-use Prim.Native.Nat.{ℕ, zero, suc, _-_, _^_}
-use mathlib.Core.Bool.{cond}
-use mathlib.Core.List.{List, [], _∷_}
-use lib.Dec.{eqb}
-use lib.IntN.{ℤ, pos, negsuc, _+ℤ_, _-ℤ_, _*ℤ_}
-use lib.ListN.{length, getD}
-use Rattle.integers.specs.Lists.{tab}
-use Rattle.integers.specs.Numbers.{digit}
-use Rattle.words.specs.declared.RoundBit.{RoundBit}
-use Rattle.words.specs.declared.RoundBitWord.{RoundBitWord}
+use Rattle.integers.specs.Names.{ℕ, zero, suc, _-_, _^_, cond, List, [], _∷_, eqb, ℤ, pos, negsuc, _+ℤ_, _-ℤ_, _*ℤ_, length, getD, digit, tab}
+use Rattle.words.specs.declared.{RoundBit.RoundBit, RoundBitWord.RoundBitWord}
 
 -- "Digit i is (digit i-1 of a) minus (digit i of a), with r below the lowest"
 unfoldable pub signedDigit : RoundBit → ℕ → ℤ

@@ -1,20 +1,7 @@
 -- Document 01, "Digit text": reading back.
-use Prim.Native.Nat.{ℕ, zero, suc}
-use mathlib.Core.Bool.{Bool, not, cond, _&&_, _||_}
-use mathlib.Core.List.{List}
-use lib.Dec.{eqb, ltb}
-use lib.IntN.{ℤ, pos, _-ℤ_}
-use lib.ListN.{length, getD}
-use Rattle.integers.specs.Lists.{firstBad}
-use Rattle.words.specs.Words.{badWidth, badUnit}
-use Rattle.words.specs.Refusals.{refuse, _orElse_}
-use Rattle.words.specs.Formats.{format}
-use Rattle.words.specs.RoundBit.{roundBitWord, roundBitRefused}
-use Rattle.words.specs.declared.Outcome.{Outcome}
-use Rattle.words.specs.declared.Outcome.the-variants.{Done, Refused}
-use Rattle.words.specs.declared.RoundBitWord.{RoundBitWord}
-use Rattle.digit_text.specs.declared.ReadAnswer.{ReadAnswer}
-use Rattle.digit_text.specs.Digits.{plus, none, minus, textValue, signBefore}
+use Rattle.integers.specs.Names.{ℕ, Bool, not, cond, _&&_, _||_, List, eqb, ltb, ℤ, pos, _-ℤ_, length, getD, firstBad}
+use Rattle.words.specs.{declared.{Outcome.{Outcome, the-variants.{Done, Refused}}, RoundBitWord.RoundBitWord}, Words.{badWidth, badUnit}, Refusals.{refuse, _orElse_}, Formats.format, RoundBit.{roundBitWord, roundBitRefused}}
+use Rattle.digit_text.specs.{declared.ReadAnswer.ReadAnswer, Digits.{plus, none, minus, textValue, signBefore}}
 
 -- a byte "that is not `+`, `0` or `-`"
 abbrev pub strange : ℕ → Bool

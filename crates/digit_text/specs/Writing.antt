@@ -1,14 +1,6 @@
 -- Document 01, "Digit text": writing.
-use Prim.Native.Nat.{ℕ}
-use mathlib.Core.List.{List}
-use lib.Dec.{ltb}
-use lib.ListN.{length}
-use Rattle.words.specs.Refusals.{refuse, _orElse_}
-use Rattle.words.specs.RoundBit.{roundBitCheck}
-use Rattle.words.specs.Buffers.{lentAfter, writeAnswer}
-use Rattle.words.specs.declared.Outcome.{Outcome}
-use Rattle.words.specs.declared.RoundBitWord.{RoundBitWord}
-use Rattle.words.specs.declared.WriteAnswer.{WriteAnswer}
+use Rattle.integers.specs.Names.{ℕ, List, ltb, length}
+use Rattle.words.specs.{declared.{Outcome.Outcome, RoundBitWord.RoundBitWord, WriteAnswer.WriteAnswer}, Refusals.{refuse, _orElse_}, RoundBit.roundBitCheck, Buffers.{lentAfter, writeAnswer}}
 use Rattle.digit_text.specs.Digits.{text}
 
 -- 1, 2, 3, then 10: "a lent buffer is too short for what would be written"

@@ -1,21 +1,7 @@
 -- Document 01, "Half-unit words": from and to plain, from and to round-bit.
-use Prim.Native.Nat.{ℕ, _+_}
-use mathlib.Core.Bool.{cond}
-use lib.Dec.{eqb}
-use lib.IntN.{ℤ, pos, _+ℤ_, _*ℤ_}
-use Rattle.integers.specs.Numbers.{floorBy, anyBelow, cleared}
-use Rattle.words.specs.Refusals.{_orElse_}
-use Rattle.words.specs.Formats.{narrower, narrowerCheck, wider, answerCheck}
-use Rattle.words.specs.Plain.{plainWord, plainCheck, plainDone, _andThen_ as _andThenPlain_}
-use Rattle.words.specs.RoundBit.{roundBitWord, roundBitCheck, roundBitDone, _andThen_ as _andThenRoundBit_}
-use Rattle.words.specs.HalfUnit.{halfUnitWord, halfUnitCheck, halfUnitDone, _andThen_}
-use Rattle.words.specs.declared.Outcome.{Outcome}
-use Rattle.words.specs.declared.PlainWord.{PlainWord}
-use Rattle.words.specs.declared.PlainAnswer.{PlainAnswer}
-use Rattle.words.specs.declared.RoundBitWord.{RoundBitWord}
-use Rattle.words.specs.declared.RoundBitAnswer.{RoundBitAnswer}
-use Rattle.words.specs.declared.HalfUnitWord.{HalfUnitWord}
-use Rattle.words.specs.declared.HalfUnitAnswer.{HalfUnitAnswer}
+use Rattle.integers.specs.Names.{ℕ, _+_, cond, eqb, ℤ, pos, _+ℤ_, _*ℤ_, floorBy, anyBelow, cleared}
+use Rattle.words.specs.declared.{Outcome.Outcome, PlainWord.PlainWord, PlainAnswer.PlainAnswer, RoundBitWord.RoundBitWord, RoundBitAnswer.RoundBitAnswer, HalfUnitWord.HalfUnitWord, HalfUnitAnswer.HalfUnitAnswer}
+use Rattle.words.specs.{Refusals._orElse_, Formats.{narrower, narrowerCheck, wider, answerCheck}, Plain.{plainWord, plainCheck, plainDone, _andThen_ as _andThenPlain_}, RoundBit.{roundBitWord, roundBitCheck, roundBitDone, _andThen_ as _andThenRoundBit_}, HalfUnit.{halfUnitWord, halfUnitCheck, halfUnitDone, _andThen_}}
 
 -- "From plain, depth d >= 0, width n-d, unit e+d:" 1, 2, 3, then 5, then 7
 abbrev pub fromPlainCheck : PlainWord → ℕ → Outcome

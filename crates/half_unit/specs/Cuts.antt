@@ -1,14 +1,6 @@
 -- Document 01, "Half-unit words": sign change and cut.
-use Prim.Native.Nat.{ℕ}
-use lib.IntN.{ℤ}
-use Rattle.integers.specs.Numbers.{turned, floorBy}
-use Rattle.words.specs.Refusals.{_orElse_}
-use Rattle.words.specs.Formats.{narrower, narrowerCheck}
-use Rattle.words.specs.HalfUnit.{halfUnitWord, halfUnitCheck, halfUnitRefused, halfUnitDone, _andThen_}
-use Rattle.words.specs.declared.Outcome.{Outcome}
-use Rattle.words.specs.declared.Outcome.the-variants.{Done, Refused}
-use Rattle.words.specs.declared.HalfUnitWord.{HalfUnitWord}
-use Rattle.words.specs.declared.HalfUnitAnswer.{HalfUnitAnswer}
+use Rattle.integers.specs.Names.{ℕ, turned, floorBy}
+use Rattle.words.specs.{declared.{Outcome.{Outcome, the-variants.{Done, Refused}}, HalfUnitWord.HalfUnitWord, HalfUnitAnswer.HalfUnitAnswer}, Refusals._orElse_, Formats.{narrower, narrowerCheck}, HalfUnit.{halfUnitWord, halfUnitCheck, halfUnitRefused, halfUnitDone, _andThen_}}
 use Rattle.half_unit.specs.declared.CutAnswer.{CutAnswer}
 
 -- "Sign change: -1-w."

@@ -1,14 +1,6 @@
 -- Document 01, "Half-unit words": product.
-use Prim.Native.Nat.{ℕ, _+_}
-use lib.IntN.{ℤ, pos, _+ℤ_, _-ℤ_, _*ℤ_}
-use Rattle.integers.specs.Numbers.{floorBy}
-use Rattle.words.specs.Refusals.{_orElse_}
-use Rattle.words.specs.Formats.{format, answerCheck}
-use Rattle.words.specs.HalfUnit.{halfUnitWord, halfUnitCheck, halfUnitDone, _andThen_}
-use Rattle.words.specs.declared.Outcome.{Outcome}
-use Rattle.words.specs.declared.Format.{Format}
-use Rattle.words.specs.declared.HalfUnitWord.{HalfUnitWord}
-use Rattle.words.specs.declared.HalfUnitAnswer.{HalfUnitAnswer}
+use Rattle.integers.specs.Names.{_+_, ℤ, pos, _+ℤ_, _-ℤ_, _*ℤ_, floorBy}
+use Rattle.words.specs.{declared.{Outcome.Outcome, Format.Format, HalfUnitWord.HalfUnitWord, HalfUnitAnswer.HalfUnitAnswer}, Refusals._orElse_, Formats.{format, answerCheck}, HalfUnit.{halfUnitWord, halfUnitCheck, halfUnitDone, _andThen_}}
 
 -- "((2x+1)(2y+1) - 1) / 2": both factors are odd, so nothing is left over
 unfoldable pub multiplied : ℤ → ℤ → ℤ

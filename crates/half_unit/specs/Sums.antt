@@ -1,11 +1,6 @@
 -- Document 01, "Half-unit words": the two sums.
-use lib.IntN.{ℤ, pos, _+ℤ_}
-use Rattle.integers.specs.Numbers.{cleared}
-use Rattle.words.specs.Refusals.{refuse, _orElse_, differ}
-use Rattle.words.specs.HalfUnit.{halfUnitWord, halfUnitCheck, halfUnitFitted, _andThen_}
-use Rattle.words.specs.declared.Outcome.{Outcome}
-use Rattle.words.specs.declared.HalfUnitWord.{HalfUnitWord}
-use Rattle.words.specs.declared.HalfUnitAnswer.{HalfUnitAnswer}
+use Rattle.integers.specs.Names.{pos, _+ℤ_, cleared}
+use Rattle.words.specs.{declared.{Outcome.Outcome, HalfUnitWord.HalfUnitWord, HalfUnitAnswer.HalfUnitAnswer}, Refusals.{refuse, _orElse_, differ}, HalfUnit.{halfUnitWord, halfUnitCheck, halfUnitFitted, _andThen_}}
 
 -- "Sum, same width and unit": 1, 2, 3 of the first, 1, 2, 3 of the second, then 4
 abbrev pub sumCheck : HalfUnitWord → HalfUnitWord → Outcome

@@ -1,11 +1,6 @@
 -- Document 01, "Round-bit words": to plain and from plain.
-use lib.IntN.{pos, _+ℤ_}
-use Rattle.words.specs.Plain.{plainWord, plainCheck, plainFitted, _andThen_}
-use Rattle.words.specs.RoundBit.{roundBitWord, roundBitCheck, roundBitDone, _andThen_ as _andThenRoundBit_}
-use Rattle.words.specs.declared.PlainWord.{PlainWord}
-use Rattle.words.specs.declared.PlainAnswer.{PlainAnswer}
-use Rattle.words.specs.declared.RoundBitWord.{RoundBitWord}
-use Rattle.words.specs.declared.RoundBitAnswer.{RoundBitAnswer}
+use Rattle.integers.specs.Names.{pos, _+ℤ_}
+use Rattle.words.specs.{declared.{PlainWord.PlainWord, PlainAnswer.PlainAnswer, RoundBitWord.RoundBitWord, RoundBitAnswer.RoundBitAnswer}, Plain.{plainWord, plainCheck, plainFitted, _andThen_}, RoundBit.{roundBitWord, roundBitCheck, roundBitDone, _andThen_ as _andThenRoundBit_}}
 
 -- "To plain: number a + r, same width and unit; 8 if that is 2^(n-1)."
 unfoldable pub toPlainWord : RoundBitWord → PlainWord

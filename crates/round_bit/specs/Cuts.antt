@@ -1,18 +1,7 @@
 -- Document 01, "Round-bit words": sign change, cut, rest of a cut, even cut, widening on the right.
-use Prim.Native.Nat.{ℕ, zero, suc, _-_, _*_, _^_}
-use lib.Bits.{bitAnd, bitOr}
-use lib.IntN.{ℤ, pos, _+ℤ_, _*ℤ_}
-use Rattle.integers.specs.Numbers.{turned, floorBy, digit, anyBelow, lowDigits}
-use Rattle.words.specs.Refusals.{_orElse_}
-use Rattle.words.specs.Formats.{narrower, narrowerCheck, wider, answerCheck}
-use Rattle.words.specs.RoundBit.{roundBitWord, roundBitCheck, roundBitRefused, roundBitDone, _andThen_}
-use Rattle.words.specs.declared.Outcome.{Outcome}
-use Rattle.words.specs.declared.Outcome.the-variants.{Done, Refused}
-use Rattle.words.specs.declared.RoundBit.{RoundBit}
-use Rattle.words.specs.declared.RoundBitWord.{RoundBitWord}
-use Rattle.words.specs.declared.RoundBitAnswer.{RoundBitAnswer}
-use Rattle.round_bit.specs.declared.CutAnswer.{CutAnswer}
-use Rattle.round_bit.specs.declared.EvenCutAnswer.{EvenCutAnswer}
+use Rattle.integers.specs.Names.{ℕ, zero, suc, _-_, _*_, _^_, bitAnd, bitOr, ℤ, pos, _+ℤ_, _*ℤ_, turned, floorBy, digit, anyBelow, lowDigits}
+use Rattle.words.specs.{declared.{Outcome.{Outcome, the-variants.{Done, Refused}}, RoundBit.RoundBit, RoundBitWord.RoundBitWord, RoundBitAnswer.RoundBitAnswer}, Refusals._orElse_, Formats.{narrower, narrowerCheck, wider, answerCheck}, RoundBit.{roundBitWord, roundBitCheck, roundBitRefused, roundBitDone, _andThen_}}
+use Rattle.round_bit.specs.declared.{CutAnswer.CutAnswer, EvenCutAnswer.EvenCutAnswer}
 
 -- "Sign change: (-1-a, 1-r)."
 abbrev pub signChanged : RoundBit → RoundBit

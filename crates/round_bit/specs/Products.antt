@@ -1,17 +1,6 @@
 -- Document 01, "Round-bit words": product.
-use Prim.Native.Nat.{ℕ, _+_, _-_}
-use mathlib.Core.Bool.{Bool, true, false, cond}
-use lib.Bits.{bitAnd}
-use lib.IntN.{ℤ, pos, _+ℤ_, _*ℤ_}
-use lib.Signed.{ltZ}
-use Rattle.words.specs.Refusals.{_orElse_}
-use Rattle.words.specs.Formats.{format, answerCheck}
-use Rattle.words.specs.RoundBit.{roundBitCheck, roundBitDone, _andThen_}
-use Rattle.words.specs.declared.Outcome.{Outcome}
-use Rattle.words.specs.declared.Format.{Format}
-use Rattle.words.specs.declared.RoundBit.{RoundBit}
-use Rattle.words.specs.declared.RoundBitWord.{RoundBitWord}
-use Rattle.words.specs.declared.RoundBitAnswer.{RoundBitAnswer}
+use Rattle.integers.specs.Names.{_+_, _-_, Bool, true, false, bitAnd, pos, _+ℤ_, _*ℤ_, ltZ}
+use Rattle.words.specs.{declared.{Outcome.Outcome, Format.Format, RoundBit.RoundBit, RoundBitWord.RoundBitWord, RoundBitAnswer.RoundBitAnswer}, Refusals._orElse_, Formats.{format, answerCheck}, RoundBit.{roundBitCheck, roundBitDone, _andThen_}}
 use Rattle.round_bit.specs.Cuts.{signChanged}
 
 -- "for operands with a, b >= 0 it is (ab + a rb + b ra, ra rb) (000, Definition 10)"

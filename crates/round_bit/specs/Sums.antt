@@ -1,12 +1,6 @@
 -- Document 01, "Round-bit words": sum and difference.
-use lib.Bits.{bitAnd, bitOr}
-use lib.IntN.{ℤ, pos, _+ℤ_}
-use Rattle.words.specs.Refusals.{refuse, _orElse_, differ}
-use Rattle.words.specs.RoundBit.{roundBitCheck, roundBitFitted, _andThen_}
-use Rattle.words.specs.declared.Outcome.{Outcome}
-use Rattle.words.specs.declared.RoundBit.{RoundBit}
-use Rattle.words.specs.declared.RoundBitWord.{RoundBitWord}
-use Rattle.words.specs.declared.RoundBitAnswer.{RoundBitAnswer}
+use Rattle.integers.specs.Names.{bitAnd, bitOr, pos, _+ℤ_}
+use Rattle.words.specs.{declared.{Outcome.Outcome, RoundBit.RoundBit, RoundBitWord.RoundBitWord, RoundBitAnswer.RoundBitAnswer}, Refusals.{refuse, _orElse_, differ}, RoundBit.{roundBitCheck, roundBitFitted, _andThen_}}
 use Rattle.round_bit.specs.Cuts.{signChangeWord}
 
 -- "Sum: (a + b + (ra and rb), ra or rb) in the common width"

@@ -1,15 +1,8 @@
 -- Demand 3, sentence by sentence, of the sum that an opening gave, done or refused, and of any calls on it. Values are in half units of
 -- the sum's unit, so half a coarse unit is 2 ^ depth.
-use Prim.Native.Nat.{ℕ, _^_, _≤_}
-use mathlib.Core.Path.{_≡_}
-use mathlib.Core.List.{List, [], _∷_, _++_}
-use lib.IntN.{ℤ, natAbs, _+ℤ_, _-ℤ_}
-use Rattle.words.specs.RoundBit.{roundBitValue}
-use Rattle.words.specs.declared.Outcome.the-variants.{Done}
-use Rattle.running_sum.specs.declared.RunningSum.{RunningSum}
-use Rattle.running_sum.specs.Steps.{openOf, Call, handOut, empty, stepOf}
-use Rattle.running_sum.specs.Totals.{accepted, handedOut}
-use Rattle.running_sum.specs.Runs.{answered, left}
+use Rattle.integers.specs.Names.{ℕ, _^_, _≤_, _≡_, List, [], _∷_, _++_, ℤ, natAbs, _+ℤ_, _-ℤ_}
+use Rattle.words.specs.{declared.Outcome.the-variants.Done, RoundBit.roundBitValue}
+use Rattle.running_sum.specs.{declared.RunningSum.RunningSum, Steps.{openOf, Call, handOut, empty, stepOf}, Totals.{accepted, handedOut}, Runs.{answered, left}}
 
 module _ (n : ℕ) (e : ℤ) (d : ℕ) where
   abbrev pub opened : RunningSum

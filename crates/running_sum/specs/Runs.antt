@@ -1,8 +1,6 @@
 -- A list of calls, "each call being made on the sum that the call before left": what they answer, and the sum that is left.
-use mathlib.Core.List.{List, [], _∷_}
-use Rattle.running_sum.specs.declared.RunningSum.{RunningSum}
-use Rattle.running_sum.specs.Steps.{Call, Step, stepOf}
-use Rattle.running_sum.specs.Totals.{Answered}
+use Rattle.integers.specs.Names.{List, [], _∷_}
+use Rattle.running_sum.specs.{declared.RunningSum.RunningSum, Steps.{Call, Step, stepOf}, Totals.Answered}
 
 abbrev pub answeredBy : Call → Step → Answered
 answeredBy c t = record { call = c; outcome = t .outcome; word = t .word }

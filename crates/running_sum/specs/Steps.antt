@@ -1,23 +1,8 @@
 -- Document 01, "The running sum": opening, and one call on any running sum.
-use Prim.Native.Nat.{ℕ, _-_}
-use mathlib.Core.Bool.{Bool, _||_}
-use lib.Dec.{eqb, ltb}
-use lib.IntN.{ℤ, pos, _+ℤ_}
-use Rattle.words.specs.Words.{badUnit}
-use Rattle.words.specs.Refusals.{refuse, _orElse_, formatCheck, differ, blankFormat}
-use Rattle.words.specs.Formats.{format}
-use Rattle.words.specs.RoundBit.{roundBitWord, roundBitCheck}
-use Rattle.words.specs.declared.Outcome.{Outcome}
-use Rattle.words.specs.declared.Outcome.the-variants.{Done, Refused}
-use Rattle.words.specs.declared.Format.{Format}
-use Rattle.words.specs.declared.RoundBitWord.{RoundBitWord}
-use Rattle.round_bit.specs.Cuts.{cutOf, restOf}
-use Rattle.round_bit.specs.Sums.{sumOf}
-use Rattle.running_sum.specs.declared.RunningSum.{RunningSum}
-use Rattle.running_sum.specs.declared.OpenAnswer.{OpenAnswer}
-use Rattle.running_sum.specs.declared.PutAnswer.{PutAnswer}
-use Rattle.running_sum.specs.declared.HandOutAnswer.{HandOutAnswer}
-use Rattle.running_sum.specs.declared.EmptyAnswer.{EmptyAnswer}
+use Rattle.integers.specs.Names.{ℕ, _-_, Bool, _||_, eqb, ltb, ℤ, pos, _+ℤ_}
+use Rattle.words.specs.{declared.{Outcome.{Outcome, the-variants.{Done, Refused}}, Format.Format, RoundBitWord.RoundBitWord}, Words.badUnit, Refusals.{refuse, _orElse_, formatCheck, differ, blankFormat}, Formats.format, RoundBit.{roundBitWord, roundBitCheck}}
+use Rattle.round_bit.specs.{Cuts.{cutOf, restOf}, Sums.sumOf}
+use Rattle.running_sum.specs.declared.{RunningSum.RunningSum, OpenAnswer.OpenAnswer, PutAnswer.PutAnswer, HandOutAnswer.HandOutAnswer, EmptyAnswer.EmptyAnswer}
 
 -- the blank word, and (0,0) in a format
 abbrev pub blank : RoundBitWord

@@ -1,11 +1,6 @@
 -- Demand 3: the two totals, from the list of calls and answers and the sum's unit alone.
-use Prim.Native.Nat.{ℕ, _^_}
-use mathlib.Core.List.{List, [], _∷_}
-use lib.IntN.{ℤ, pos, negsuc, _+ℤ_, _-ℤ_, _*ℤ_}
-use Rattle.words.specs.RoundBit.{roundBitValue}
-use Rattle.words.specs.declared.Outcome.{Outcome}
-use Rattle.words.specs.declared.Outcome.the-variants.{Done, Refused}
-use Rattle.words.specs.declared.RoundBitWord.{RoundBitWord}
+use Rattle.integers.specs.Names.{ℕ, _^_, List, [], _∷_, ℤ, pos, negsuc, _+ℤ_, _-ℤ_, _*ℤ_}
+use Rattle.words.specs.{declared.{Outcome.{Outcome, the-variants.{Done, Refused}}, RoundBitWord.RoundBitWord}, RoundBit.roundBitValue}
 use Rattle.running_sum.specs.Steps.{Call, put, handOut, empty}
 
 -- a call and what it answered

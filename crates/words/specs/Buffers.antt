@@ -1,10 +1,6 @@
 -- What a lent buffer holds after a call, and the answer of a writing.
-use Prim.Native.Nat.{ℕ}
-use mathlib.Core.List.{List}
-use Rattle.integers.specs.Lists.{atFront}
-use Rattle.words.specs.declared.Outcome.{Outcome}
-use Rattle.words.specs.declared.Outcome.the-variants.{Done, Refused}
-use Rattle.words.specs.declared.WriteAnswer.{WriteAnswer}
+use Rattle.integers.specs.Names.{ℕ, List, atFront}
+use Rattle.words.specs.declared.{Outcome.{Outcome, the-variants.{Done, Refused}}, WriteAnswer.WriteAnswer}
 
 -- "Only the named places are written", the first ones; at a refusal "lent buffers .. stay as they were"
 unfoldable pub lentAfter : {A : Type 0} → Outcome → List A → List A → List A

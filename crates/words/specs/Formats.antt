@@ -1,14 +1,6 @@
 -- The formats of answers, and the refusals 5, 6 and 7 that they meet. A format here is any width and unit, however large.
-use Prim.Native.Nat.{ℕ, _+_, _-_}
-use mathlib.Core.Bool.{Bool}
-use lib.Dec.{ltb}
-use lib.IntN.{ℤ, pos, _+ℤ_, _-ℤ_}
-use Rattle.words.specs.Words.{badUnit}
-use Rattle.words.specs.Refusals.{refuse, _orElse_, blankFormat}
-use Rattle.words.specs.declared.Outcome.{Outcome}
-use Rattle.words.specs.declared.Outcome.the-variants.{Done, Refused}
-use Rattle.words.specs.declared.Format.{Format}
-use Rattle.words.specs.declared.FormatAnswer.{FormatAnswer}
+use Rattle.integers.specs.Names.{ℕ, _+_, _-_, ltb, ℤ, pos, _+ℤ_, _-ℤ_}
+use Rattle.words.specs.{declared.{Outcome.{Outcome, the-variants.{Done, Refused}}, Format.Format, FormatAnswer.FormatAnswer}, Words.badUnit, Refusals.{refuse, _orElse_, blankFormat}}
 
 abbrev pub format : ℕ → ℤ → Format
 format n e = record { width = n; unit = e }

@@ -1,15 +1,6 @@
 -- Half-unit words: "Half-unit word w: value w + 1/2 units."
-use Prim.Native.Nat.{ℕ}
-use lib.IntN.{ℤ, pos}
-use Rattle.words.specs.Words.{value, outside}
-use Rattle.words.specs.Words.Kind.{halfUnit}
-use Rattle.words.specs.Refusals.{refuse, wordCheck, blankFormat, after}
-use Rattle.words.specs.declared.Cause.{Cause}
-use Rattle.words.specs.declared.Outcome.{Outcome}
-use Rattle.words.specs.declared.Outcome.the-variants.{Done, Refused}
-use Rattle.words.specs.declared.Format.{Format}
-use Rattle.words.specs.declared.HalfUnitWord.{HalfUnitWord}
-use Rattle.words.specs.declared.HalfUnitAnswer.{HalfUnitAnswer}
+use Rattle.integers.specs.Names.{ℤ, pos}
+use Rattle.words.specs.{declared.{Cause.Cause, Outcome.{Outcome, the-variants.{Done, Refused}}, Format.Format, HalfUnitWord.HalfUnitWord, HalfUnitAnswer.HalfUnitAnswer}, Words.{value, outside, Kind.halfUnit}, Refusals.{refuse, wordCheck, blankFormat, after}}
 
 abbrev pub halfUnitWord : ℤ → Format → HalfUnitWord
 halfUnitWord w f = record { number = record { 0 = w }; format = f }

@@ -1,15 +1,6 @@
 -- Plain words: "Plain word x: value x units (two's complement)."
-use Prim.Native.Nat.{ℕ}
-use lib.IntN.{ℤ, pos}
-use Rattle.words.specs.Words.{value, outside}
-use Rattle.words.specs.Words.Kind.{plain}
-use Rattle.words.specs.Refusals.{refuse, wordCheck, blankFormat, after}
-use Rattle.words.specs.declared.Cause.{Cause}
-use Rattle.words.specs.declared.Outcome.{Outcome}
-use Rattle.words.specs.declared.Outcome.the-variants.{Done, Refused}
-use Rattle.words.specs.declared.Format.{Format}
-use Rattle.words.specs.declared.PlainWord.{PlainWord}
-use Rattle.words.specs.declared.PlainAnswer.{PlainAnswer}
+use Rattle.integers.specs.Names.{ℤ, pos}
+use Rattle.words.specs.{declared.{Cause.Cause, Outcome.{Outcome, the-variants.{Done, Refused}}, Format.Format, PlainWord.PlainWord, PlainAnswer.PlainAnswer}, Words.{value, outside, Kind.plain}, Refusals.{refuse, wordCheck, blankFormat, after}}
 
 abbrev pub plainWord : ℤ → Format → PlainWord
 plainWord x f = record { number = record { 0 = x }; format = f }

@@ -1,17 +1,6 @@
 -- Document 01, "Refusal numbers": the table, and the rule for several causes.
-use Prim.Native.Nat.{ℕ, _-_}
-use mathlib.Core.Bool.{Bool, true, false, not, _&&_, _||_}
-use mathlib.Core.List.{List, [], _∷_}
-use lib.Dec.{T, leb, eqb}
-use lib.ListN.{getD, length}
-use lib.IntN.{ℤ, pos}
-use Rattle.integers.specs.Numbers.{eqZ}
-use Rattle.words.specs.Words.{badWidth, badUnit, outside, badRoundBit}
-use Rattle.words.specs.declared.Cause.{Cause}
-use Rattle.words.specs.declared.Cause.the-variants.{Width, Unit, Number, Mismatch, Depth, WidthPast, UnitPast, NumberPast, DigitText, Buffer, Mark, Form}
-use Rattle.words.specs.declared.Outcome.{Outcome}
-use Rattle.words.specs.declared.Outcome.the-variants.{Done, Refused}
-use Rattle.words.specs.declared.Format.{Format}
+use Rattle.integers.specs.Names.{ℕ, _-_, Bool, true, false, not, _&&_, _||_, List, [], _∷_, T, leb, eqb, ℤ, pos, getD, length, eqZ}
+use Rattle.words.specs.{declared.{Cause.{Cause, the-variants.{Width, Unit, Number, Mismatch, Depth, WidthPast, UnitPast, NumberPast, DigitText, Buffer, Mark, Form}}, Outcome.{Outcome, the-variants.{Done, Refused}}, Format.Format}, Words.{badWidth, badUnit, outside, badRoundBit}}
 
 -- the table's number of each cause
 abbrev pub causeNumber : Cause → ℕ

@@ -1,15 +1,6 @@
 -- Round-bit words: "Round-bit word (a, r), r 0 or 1: value a + r units."
-use Prim.Native.Nat.{ℕ}
-use lib.IntN.{ℤ, pos}
-use Rattle.words.specs.Words.{value, outside}
-use Rattle.words.specs.Words.Kind.{roundBit}
-use Rattle.words.specs.Refusals.{refuse, wordCheck, blankFormat, after}
-use Rattle.words.specs.declared.Cause.{Cause}
-use Rattle.words.specs.declared.Outcome.{Outcome}
-use Rattle.words.specs.declared.Outcome.the-variants.{Done, Refused}
-use Rattle.words.specs.declared.Format.{Format}
-use Rattle.words.specs.declared.RoundBitWord.{RoundBitWord}
-use Rattle.words.specs.declared.RoundBitAnswer.{RoundBitAnswer}
+use Rattle.integers.specs.Names.{ℕ, ℤ, pos}
+use Rattle.words.specs.{declared.{Cause.Cause, Outcome.{Outcome, the-variants.{Done, Refused}}, Format.Format, RoundBitWord.RoundBitWord, RoundBitAnswer.RoundBitAnswer}, Words.{value, outside, Kind.roundBit}, Refusals.{refuse, wordCheck, blankFormat, after}}
 
 abbrev pub roundBitWord : ℤ → ℕ → Format → RoundBitWord
 roundBitWord a r f = record { number = record { 0 = a; 1 = r }; format = f }

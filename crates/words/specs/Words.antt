@@ -1,9 +1,5 @@
 -- Document 01, "The words", in its order.
-use Prim.Native.Nat.{ℕ}
-use mathlib.Core.Bool.{Bool, not, _&&_}
-use lib.Dec.{leb}
-use lib.IntN.{ℤ, pos, negℤ, _+ℤ_, _*ℤ_}
-use Rattle.integers.specs.Numbers.{lies, fitsWidth}
+use Rattle.integers.specs.Names.{ℕ, Bool, not, _&&_, leb, ℤ, pos, negℤ, _+ℤ_, _*ℤ_, lies, fitsWidth}
 use Rattle.words.specs.declared.Format.{Format}
 
 -- "Three kinds of word."
