@@ -1,6 +1,5 @@
 -- Widening on the right: it keeps the value, and a cut by the same depth takes it back. Assumes nothing.
 use Prim.Native.Nat.{ℕ, zero, suc, _-_, _*_, _^_, _≤_}
-use native.Mathlib.Omega.{arith}
 use mathlib.Core.Path.{_≡_, sym, ap, _∙_}
 use lib.Pow.{suc-ones}
 use lib.IntN.{pos, _+ℤ_, _*ℤ_}
@@ -11,11 +10,12 @@ use Rattle.words.specs.Formats.{wider}
 use Rattle.words.specs.RoundBit.{roundBitValue, roundBitCheck}
 use Rattle.words.specs.declared.Outcome.the-variants.{Done}
 use Rattle.words.specs.declared.RoundBitWord.{RoundBitWord}
-use Rattle.words.proofs.Laws.{RightFormat, RightRoundBit, round-bit-right, round-bit-passes, round-bit-law}
-use Rattle.words.proofs.Formats.{answer-right, narrower-none, narrower-passes, narrower-wider}
+use Rattle.words.proofs.Laws.{RightFormat, RightRoundBit, round-bit-passes, round-bit-law}
+use Rattle.words.proofs.Formats.{narrower-none, narrower-passes, narrower-wider}
 use Rattle.words.proofs.Rights.{widened-right}
+use Rattle.words.proofs.Operands.{wider-right}
 use Rattle.round_bit.specs.Cuts.{cutWord, cutAnswer, cutOf, widenWord, widenCheck, widenOf}
-use Rattle.round_bit.proofs.Checks.{word-done, widen-passed}
+use Rattle.round_bit.proofs.Checks.{word-done}
 use Rattle.round_bit.proofs.Laws.Cuts.{cut-passes}
 
 -- ---- what a done answer and its check tell
@@ -23,10 +23,8 @@ pub widen-done : (w : RoundBitWord) (d : ℕ) → widenOf w d .outcome ≡ Done 
 widen-done w d e = word-done (widenCheck w d) (widenWord w d) e
 
 pub widen-tells : (w : RoundBitWord) (d : ℕ) → widenCheck w d ≡ Done → RightRoundBit w × RightFormat (wider (w .format) d)
-widen-tells w d c =
-    let t = widen-passed w d c in
-    let g = round-bit-right w (t .0) in
-    (g, answer-right (wider (w .format) d) (omega (arith, g .format .narrow)) (t .1))
+unfolding roundBitCheck
+widen-tells w d c = wider-right (w .format) (w .number .0) (w .number .1) d c
 
 -- ---- closed: the word of a done answer passes its own check
 widen-right : (w : RoundBitWord) (d : ℕ) → widenCheck w d ≡ Done → RightRoundBit (widenWord w d)
