@@ -1,0 +1,49 @@
+-- The C boundary: how a flat word is read, and how an answer is laid flat. An outcome is its number in document 01's table.
+use Rattle.words.specs.{Refusals.numberOf, Formats.format, Plain.plainWord, RoundBit.roundBitWord, HalfUnit.halfUnitWord}
+use Rattle.words.specs.declared.{Outcome.Outcome, PlainWord.PlainWord, RoundBitWord.RoundBitWord, HalfUnitWord.HalfUnitWord, WriteAnswer.WriteAnswer}
+use Rattle.running_sum.specs.declared.RunningSum.{RunningSum}
+use Rattle.block_file.specs.declared.ReadAnswer.{ReadAnswer}
+use Rattle.frostuldi.specs.declared.{FrostPlain.FrostPlain, FrostHalfUnit.FrostHalfUnit, FrostRoundBit.FrostRoundBit, FrostPlainAnswer.FrostPlainAnswer, FrostHalfUnitAnswer.FrostHalfUnitAnswer, FrostRoundBitAnswer.FrostRoundBitAnswer}
+use Rattle.frostuldi.specs.declared.{FrostRunningSum.FrostRunningSum, FrostSumAnswer.FrostSumAnswer, FrostFileHead.FrostFileHead, FrostWritten.FrostWritten}
+
+-- what comes in
+abbrev pub plainIn : FrostPlain → PlainWord
+plainIn w = plainWord (w .number) (format (w .width) (w .unit))
+
+abbrev pub halfUnitIn : FrostHalfUnit → HalfUnitWord
+halfUnitIn w = halfUnitWord (w .number) (format (w .width) (w .unit))
+
+abbrev pub roundBitIn : FrostRoundBit → RoundBitWord
+roundBitIn w = roundBitWord (w .number) (w .round) (format (w .width) (w .unit))
+
+abbrev pub sumIn : FrostRunningSum → RunningSum
+sumIn s = record { kept = roundBitIn (s .kept); depth = s .depth }
+
+-- what goes out
+abbrev pub flatPlain : PlainWord → FrostPlain
+flatPlain w = record { number = w .number .0; width = w .format .width; unit = w .format .unit }
+
+abbrev pub flatHalfUnit : HalfUnitWord → FrostHalfUnit
+flatHalfUnit w = record { number = w .number .0; width = w .format .width; unit = w .format .unit }
+
+abbrev pub flatRoundBit : RoundBitWord → FrostRoundBit
+flatRoundBit w = record { number = w .number .0; width = w .format .width; unit = w .format .unit; round = w .number .1 }
+
+abbrev pub plainOut : Outcome → PlainWord → FrostPlainAnswer
+plainOut o w = record { word = flatPlain w; refusal = numberOf o }
+
+abbrev pub halfUnitOut : Outcome → HalfUnitWord → FrostHalfUnitAnswer
+halfUnitOut o w = record { word = flatHalfUnit w; refusal = numberOf o }
+
+abbrev pub roundBitOut : Outcome → RoundBitWord → FrostRoundBitAnswer
+roundBitOut o w = record { word = flatRoundBit w; refusal = numberOf o }
+
+abbrev pub sumOut : Outcome → RoundBitWord → RunningSum → FrostSumAnswer
+sumOut o w s = record { sum = record { kept = flatRoundBit (s .kept); depth = s .depth }; word = flatRoundBit w; refusal = numberOf o }
+
+abbrev pub headOut : ReadAnswer → FrostFileHead
+headOut a =
+    record { refusal = numberOf (a .outcome); kind = a .head .kind; width = a .head .format .width; unit = a .head .format .unit; count = a .head .count }
+
+abbrev pub writtenOut : WriteAnswer → FrostWritten
+writtenOut a = record { bytes = a .count; refusal = numberOf (a .outcome) }

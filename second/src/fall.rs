@@ -1,0 +1,87 @@
+//! If the library falls (a panic that aborts, a bad address) the whole process
+//! falls with it. This prints the case that it fell on, then ends with 1.
+
+use crate::operations::Case;
+use std::cell::Cell;
+use std::sync::atomic::{AtomicUsize, Ordering};
+
+/// The operation, its operands if they are words, and the bytes of its text or
+/// file if it has one; the address is good for as long as the call lasts.
+#[derive(Clone, Copy)]
+struct Call {
+    name: &'static str,
+    case: Option<Case>,
+    bytes: *const u8,
+    length: usize,
+}
+
+const NO_CALL: Call = Call {
+    name: "no call",
+    case: None,
+    bytes: std::ptr::null(),
+    length: 0,
+};
+
+/// More bytes of a file than this are not printed.
+const PRINTED_BYTES: usize = 200;
+
+thread_local! {
+    static LAST: Cell<Call> = const { Cell::new(NO_CALL) };
+}
+
+/// Parts that ended before the fall, so that the last line can be printed.
+pub static PASSED: AtomicUsize = AtomicUsize::new(0);
+pub static FAILED: AtomicUsize = AtomicUsize::new(0);
+
+extern "C" {
+    fn signal(number: i32, action: extern "C" fn(i32)) -> usize;
+    fn _exit(status: i32) -> !;
+}
+
+const ILLEGAL: i32 = 4;
+const ABORT: i32 = 6;
+const BUS: i32 = 7;
+const ARITHMETIC: i32 = 8;
+const ADDRESS: i32 = 11;
+
+pub fn watch() {
+    for number in [ILLEGAL, ABORT, BUS, ARITHMETIC, ADDRESS] {
+        unsafe { signal(number, fell) };
+    }
+}
+
+pub fn about_to_call(name: &'static str, case: Option<&Case>, bytes: &[u8]) {
+    let call = Call {
+        name,
+        case: case.copied(),
+        bytes: bytes.as_ptr(),
+        length: bytes.len(),
+    };
+    LAST.with(|last| last.set(call));
+}
+
+/// Outside a library call the bytes may be gone.
+pub fn back() {
+    LAST.with(|last| last.set(NO_CALL));
+}
+
+/// Runs in the thread that fell. The process is lost by now, so it may print.
+extern "C" fn fell(number: i32) {
+    let call = LAST.with(|last| last.get());
+    println!(
+        "DIFFERENCE in {}: it fell with signal {}",
+        call.name, number
+    );
+    if let Some(case) = call.case {
+        println!("  case:    {:?}", case);
+    }
+    if !call.bytes.is_null() && call.length > 0 {
+        let printed = call.length.min(PRINTED_BYTES);
+        let bytes = unsafe { std::slice::from_raw_parts(call.bytes, printed) };
+        println!("  case:    {} bytes, {:02X?}", call.length, bytes);
+    }
+    let passed = PASSED.load(Ordering::SeqCst);
+    let failed = FAILED.load(Ordering::SeqCst) + 1;
+    println!("{} passed, {} failed", passed, failed);
+    unsafe { _exit(1) }
+}

@@ -1,0 +1,202 @@
+//! Listings: the text that the library puts into a lent buffer, and the listing
+//! program, run as a program on a thousand files.
+
+use crate::blocks;
+use crate::fall;
+use crate::files::{any_file, each_byte_damaged, file_text, random_room, RANDOM_FILES};
+use crate::lent::Lent;
+use crate::library::frost_listing_text;
+use crate::listing;
+use crate::random::Random;
+use crate::tally::{Record, LISTING_CALL, LISTING_PRINTED, PROGRAM_PRINTED};
+use crate::texts::written;
+use crate::Job;
+use std::io::Write;
+use std::process::{ChildStdin, Command, Stdio};
+use std::time::Duration;
+
+pub fn jobs(seed: u64, program: &str) -> Vec<Job> {
+    let mut jobs = vec![
+        Job::new("listing text, damaged files", move |record| {
+            list_damaged(&mut Random::new(seed, 500), record)
+        }),
+        Job::new("listing text, random files", move |record| {
+            list_random(&mut Random::new(seed, 501), record)
+        }),
+        Job::new("listing text, a thousand files", move |record| {
+            list_thousand(seed, record)
+        }),
+    ];
+    for half in 0..2 {
+        let name = format!("listing program, half {} of a thousand files", half + 1);
+        let program = program.to_string();
+        jobs.push(Job::new(name, move |record| {
+            run_listings(seed, &program, half, record)
+        }));
+    }
+    jobs
+}
+
+fn compare_listing(file: &[u8], text: &str, room: usize, record: &mut Record) {
+    let salt = record.cases;
+    let mut lent = Lent::holding_bytes(file, salt);
+    let before = lent.clone();
+    let mut out = Lent::bytes(room, salt);
+    let mut second_out = out.clone();
+    fall::about_to_call("frost_listing_text", None, file);
+    let answer = unsafe { frost_listing_text(lent.pointer(), file.len(), out.pointer(), room) };
+    fall::back();
+    let library = written(answer);
+    let second = listing::write(file, second_out.lend());
+    record.answer(LISTING_CALL, library.refusal);
+    if library.refusal == 0 {
+        let length = (library.bytes as usize).min(room);
+        record.answer(LISTING_PRINTED, printed_number(&out.content()[..length]));
+    }
+    let agrees = library == second && out == second_out && lent == before;
+    record.check(agrees, || {
+        format!(
+            "frost_listing_text\n  case:    {}, room {}\n  library: {:?}\n  second:  {:?} {:?}\n  \
+             first byte that differs (library, second): {}; byte of the file {}",
+            file_text(file),
+            room,
+            library,
+            second,
+            beginning(text.as_bytes()),
+            out.first_difference(&second_out),
+            lent.first_difference(&before)
+        )
+    });
+}
+
+fn beginning(text: &[u8]) -> String {
+    String::from_utf8_lossy(&text[..text.len().min(80)]).into_owned()
+}
+
+/// The number in the line `refused N`, or 0 if the text is a listing.
+fn printed_number(text: &[u8]) -> u32 {
+    let text = String::from_utf8_lossy(text);
+    match text.strip_prefix("refused ") {
+        Some(number) => number.trim_end_matches('\n').parse().unwrap_or(u32::MAX),
+        None => 0,
+    }
+}
+
+/// Buffers exact, longer, one byte too short, and empty.
+fn list_into_all_rooms(file: &[u8], record: &mut Record) {
+    let text = listing::listing(file);
+    let needed = text.len();
+    for room in [needed, needed + 1, needed + 70, needed - 1, 0] {
+        compare_listing(file, &text, room, record);
+    }
+}
+
+fn list_damaged(random: &mut Random, record: &mut Record) {
+    for kind in 0..3 {
+        for width in [2, 31, 32] {
+            let file = blocks::good(random, kind, width, -7, 2).bytes();
+            each_byte_damaged(&file, |damaged| {
+                let text = listing::listing(damaged);
+                compare_listing(damaged, &text, text.len() + 3, record);
+            });
+        }
+    }
+}
+
+fn list_random(random: &mut Random, record: &mut Record) {
+    for _ in 0..RANDOM_FILES / 4 {
+        let file = any_file(random);
+        let text = listing::listing(&file);
+        let room = random_room(random, text.len() as u64);
+        compare_listing(&file, &text, room, record);
+    }
+}
+
+fn list_thousand(seed: u64, record: &mut Record) {
+    let document = listing::listing(&blocks::IN_THE_DOCUMENT);
+    record.check(document == blocks::ITS_LISTING, || {
+        format!("the listing in the document\n  second:  {:?}", document)
+    });
+    for file in blocks::thousand(seed) {
+        list_into_all_rooms(&file, record);
+    }
+}
+
+// The listing program.
+
+fn run_listings(seed: u64, program: &str, half: usize, record: &mut Record) {
+    let files = blocks::thousand(seed);
+    for (index, file) in files.iter().enumerate() {
+        if index % 2 == half {
+            compare_run(program, file, index % 16 < 2, record);
+        }
+    }
+}
+
+fn compare_run(program: &str, file: &[u8], in_pieces: bool, record: &mut Record) {
+    let expected = listing::listing(file);
+    let printed = match run(program, file, in_pieces) {
+        Ok(printed) => printed,
+        Err(fault) => {
+            record.check(false, || {
+                format!(
+                    "the listing program\n  case:    {}\n  {}",
+                    file_text(file),
+                    fault
+                )
+            });
+            return;
+        }
+    };
+    record.answer(PROGRAM_PRINTED, printed_number(&printed));
+    record.check(printed == expected.as_bytes(), || {
+        format!(
+            "the listing program\n  case:    {}\n  \
+             program: {} bytes {:?}\n  second:  {} bytes {:?}",
+            file_text(file),
+            printed.len(),
+            beginning(&printed),
+            expected.len(),
+            beginning(expected.as_bytes())
+        )
+    });
+}
+
+/// The document says nothing of an exit status, so any will do; but a program
+/// that a signal ended did not end by itself.
+fn run(program: &str, file: &[u8], in_pieces: bool) -> Result<Vec<u8>, String> {
+    let started = Command::new(program)
+        .stdin(Stdio::piped())
+        .stdout(Stdio::piped())
+        .stderr(Stdio::null())
+        .spawn();
+    let mut child = started.map_err(|fault| format!("cannot start {}: {}", program, fault))?;
+    let input = child.stdin.take().expect("a pipe to the program");
+    let output = std::thread::scope(|scope| {
+        scope.spawn(|| feed(input, file, in_pieces));
+        child.wait_with_output()
+    });
+    let output = output.map_err(|fault| format!("cannot read from {}: {}", program, fault))?;
+    match output.status.code() {
+        Some(_) => Ok(output.stdout),
+        None => Err(format!("{} was ended: {}", program, output.status)),
+    }
+}
+
+/// A program may stop reading once it has seen too much: that is no fault, so
+/// a broken pipe is let pass. In pieces, it has to ask for more than once.
+fn feed(mut input: ChildStdin, file: &[u8], in_pieces: bool) {
+    let piece = if in_pieces {
+        file.len() / 2 + 1
+    } else {
+        file.len().max(1)
+    };
+    for bytes in file.chunks(piece) {
+        if input.write_all(bytes).and_then(|_| input.flush()).is_err() {
+            return;
+        }
+        if in_pieces {
+            std::thread::sleep(Duration::from_millis(2));
+        }
+    }
+}

@@ -1,0 +1,261 @@
+//! Random cases over all widths and all operations, from a seed that is
+//! printed, so that a run can be repeated.
+
+use crate::operations::{compare, Case, Operand, Takes, OPERATIONS};
+use crate::tally::{Record, OPERATION_ROWS};
+use crate::texts;
+use crate::Job;
+
+/// For each operation; with the two of the digit text 26 million in all.
+const CASES: u64 = 1_000_000;
+
+/// A xorshift generator with a final multiplication.
+pub struct Random {
+    state: u64,
+}
+
+impl Random {
+    /// Parts get unlike streams from one seed.
+    pub fn new(seed: u64, part: u64) -> Random {
+        let mixed = (seed ^ part.wrapping_mul(0xA24B_AED4_963E_E407)).wrapping_add(part);
+        let mut random = Random {
+            state: mixed.wrapping_mul(0x9E37_79B9_7F4A_7C15) | 1,
+        };
+        for _ in 0..16 {
+            random.next();
+        }
+        random
+    }
+
+    pub fn next(&mut self) -> u64 {
+        self.state ^= self.state >> 12;
+        self.state ^= self.state << 25;
+        self.state ^= self.state >> 27;
+        self.state.wrapping_mul(0x2545_F491_4F6C_DD1D)
+    }
+
+    /// From 0 to less than the limit.
+    pub fn below(&mut self, limit: u64) -> u64 {
+        (self.next() >> 11) % limit
+    }
+
+    /// True once in so many times.
+    pub fn once_in(&mut self, times: u64) -> bool {
+        self.below(times) == 0
+    }
+
+    pub fn one_of<T: Copy>(&mut self, choices: &[T]) -> T {
+        choices[self.below(choices.len() as u64) as usize]
+    }
+}
+
+pub fn jobs(seed: u64) -> Vec<Job> {
+    let mut jobs = Vec::new();
+    for row in 0..OPERATION_ROWS {
+        let name = format!("random, {}", OPERATIONS[row].name);
+        jobs.push(Job::new(name, move |record| {
+            random_cases(seed, row, record)
+        }));
+    }
+    jobs.push(Job::new("random, frost_digit_text_write", move |record| {
+        write_texts(seed, record)
+    }));
+    jobs.push(Job::new("random, frost_digit_text_read", move |record| {
+        read_texts(seed, record)
+    }));
+    jobs
+}
+
+fn random_cases(seed: u64, row: usize, record: &mut Record) {
+    let mut random = Random::new(seed, row as u64);
+    let takes = OPERATIONS[row].takes;
+    for _ in 0..CASES {
+        let case = random_case(&mut random, takes);
+        compare(row, &case, record);
+    }
+}
+
+fn random_case(random: &mut Random, takes: Takes) -> Case {
+    let first = word(random);
+    let second = if takes.second {
+        second_word(random, first)
+    } else {
+        Operand::BLANK
+    };
+    Case {
+        first,
+        depth: depth(random, first),
+        second,
+    }
+}
+
+/// Mostly a good word; about one in ten has a cause 1, 2 or 3.
+pub fn word(random: &mut Random) -> Operand {
+    let width = width(random);
+    let unit = unit(random);
+    word_of(random, width, unit)
+}
+
+fn word_of(random: &mut Random, width: u32, unit: i32) -> Operand {
+    Operand {
+        number: number(random, width),
+        round: round(random),
+        width,
+        unit,
+    }
+}
+
+fn width(random: &mut Random) -> u32 {
+    match random.below(32) {
+        0 => random.one_of(&[0, 1, 64, 65, 258, u32::MAX]),
+        1 => random.next() as u32,
+        2 | 3 => random.one_of(&[2, 3, 62, 63]),
+        _ => 2 + random.below(62) as u32,
+    }
+}
+
+fn unit(random: &mut Random) -> i32 {
+    match random.below(32) {
+        0 => random.one_of(&[-128, 128, i32::MIN, i32::MAX, 256]),
+        1 => random.next() as i32,
+        2..=5 => random.one_of(&[-127, -126, 126, 127, -64, 64, 63]),
+        _ => random.below(255) as i32 - 127,
+    }
+}
+
+fn round(random: &mut Random) -> u8 {
+    match random.below(64) {
+        0 => random.one_of(&[2, 3, 128, 254, 255]),
+        1 => random.next() as u8,
+        _ => random.below(2) as u8,
+    }
+}
+
+fn number(random: &mut Random, width: u32) -> i64 {
+    let width = width.clamp(1, 64);
+    // As a 128-bit number, since 2^(n-1) of width 64 is past an i64.
+    let half = 1i128 << (width - 1);
+    let near = random.below(4) as i128;
+    let number = match random.below(24) {
+        0 => random.one_of(&[half, -half - 1, half + 1]),
+        1 => random.next() as i64 as i128,
+        2..=4 => -half + near,
+        5..=7 => half - 1 - near,
+        8..=10 => near - 2,
+        11..=14 => any_narrower(random, width),
+        _ => any_in(random, width),
+    };
+    number as i64
+}
+
+/// Small numbers as often as large ones.
+fn any_narrower(random: &mut Random, width: u32) -> i128 {
+    let narrower = 1 + random.below(width as u64) as u32;
+    any_in(random, narrower)
+}
+
+/// Any number of the width, 1 to 64.
+fn any_in(random: &mut Random, width: u32) -> i128 {
+    (random.next() as i64 >> (64 - width)) as i128
+}
+
+/// Often of the first word's format, so that sums are done; often of a width
+/// and unit that let a product be done, just or just not.
+fn second_word(random: &mut Random, first: Operand) -> Operand {
+    let (width, unit) = match random.below(8) {
+        0..=3 => (first.width, first.unit),
+        4 => (first.width, unit(random)),
+        5 => (width(random), first.unit),
+        6 => {
+            let near_width = 64i64 - first.width as i64 - 1 + random.below(4) as i64;
+            let near_unit = 126i64 - first.unit as i64 + random.below(4) as i64;
+            (
+                near_width.clamp(0, 64) as u32,
+                near_unit.clamp(-128, 128) as i32,
+            )
+        }
+        _ => {
+            let room = 62u64.saturating_sub(first.width as u64).max(1);
+            let near_unit = -128i64 - first.unit as i64 + random.below(5) as i64;
+            let unit = match random.once_in(2) {
+                true => unit(random),
+                false => near_unit.clamp(-128, 128) as i32,
+            };
+            (2 + random.below(room) as u32, unit)
+        }
+    };
+    word_of(random, width, unit)
+}
+
+fn depth(random: &mut Random, first: Operand) -> u64 {
+    let n = first.width.min(70) as u64;
+    match random.below(16) {
+        0 => random.next(),
+        1 => random.one_of(&[63, 64, 256, 257, 1 << 32, (1 << 32) + 1, 1 << 63, u64::MAX]),
+        2..=4 => (n + 1).saturating_sub(random.below(5)),
+        5 => 0,
+        6 => 63u64.saturating_sub(n) + random.below(3),
+        7 => (126 - first.unit as i64 + random.below(4) as i64).max(0) as u64,
+        8..=11 => random.below(5),
+        _ => random.below(n + 2),
+    }
+}
+
+fn write_texts(seed: u64, record: &mut Record) {
+    let mut random = Random::new(seed, 100);
+    for _ in 0..CASES {
+        let word = word(&mut random);
+        let n = word.width.min(64) as u64;
+        let room = match random.below(8) {
+            0 => random.below(n + 1),
+            1 => n.saturating_sub(1),
+            2 => n,
+            _ => n + random.below(10),
+        };
+        texts::compare_write(word, room as usize, record);
+    }
+}
+
+fn read_texts(seed: u64, record: &mut Record) {
+    let mut random = Random::new(seed, 101);
+    for _ in 0..CASES {
+        let mut text = good_text(&mut random);
+        if random.once_in(4) {
+            damage(&mut random, &mut text);
+        }
+        let unit = unit(&mut random);
+        texts::compare_read(&text, unit, record);
+    }
+}
+
+/// Alternating signs among zeros; the zeros are seldom or many.
+fn good_text(random: &mut Random) -> Vec<u8> {
+    let length = if random.once_in(20) {
+        random.below(130)
+    } else {
+        2 + random.below(62)
+    };
+    let zeros = random.one_of(&[2, 3, 10, 60]);
+    let mut sign = random.one_of(&[b'+', b'-']);
+    let mut text = Vec::new();
+    for _ in 0..length {
+        if random.once_in(zeros) {
+            text.push(sign);
+            sign = if sign == b'+' { b'-' } else { b'+' };
+        } else {
+            text.push(b'0');
+        }
+    }
+    text
+}
+
+fn damage(random: &mut Random, text: &mut [u8]) {
+    if text.is_empty() {
+        return;
+    }
+    let place = random.below(text.len() as u64) as usize;
+    text[place] = match random.below(4) {
+        0 => random.next() as u8,
+        _ => random.one_of(&[b'+', b'-', b'0']),
+    };
+}

@@ -1,0 +1,10 @@
+//! The second program alone: document 01 once more, plain and slow.
+//! Written from document 01 alone; it shares nothing with crates/.
+
+pub mod block_file;
+pub mod digit_text;
+pub mod half_unit;
+pub mod listing;
+pub mod round_bit;
+pub mod running_sum;
+pub mod words;

@@ -1,0 +1,80 @@
+//! The two operations of the digit text, called in both programs on one case.
+
+use crate::digit_text;
+use crate::fall;
+use crate::lent::Lent;
+use crate::library::*;
+use crate::operations::{Case, Operand, Reply};
+use crate::tally::{Record, TEXT_READ, TEXT_WRITE};
+use crate::words::{RoundBit, Written, DONE};
+
+pub fn written(answer: FrostWritten) -> Written {
+    Written {
+        bytes: answer.bytes as i128,
+        refusal: answer.refusal,
+    }
+}
+
+/// Writes a word's text into a buffer of the room given; gives back what the
+/// library left in the buffer.
+pub fn compare_write(word: Operand, room: usize, record: &mut Record) -> Vec<u8> {
+    let salt = record.cases;
+    let mut library_text = Lent::bytes(room, salt);
+    let mut second_text = Lent::bytes(room, salt);
+    let case = Case {
+        depth: room as u64,
+        ..Case::of(word)
+    };
+    fall::about_to_call("frost_digit_text_write", Some(&case), &[]);
+    let answer = unsafe { frost_digit_text_write(word.into(), library_text.pointer(), room) };
+    fall::back();
+    let library = written(answer);
+    let second = digit_text::write(word.into(), second_text.lend());
+    record.answer(TEXT_WRITE, library.refusal);
+    let agrees = library == second && library_text == second_text;
+    record.check(agrees, || {
+        let difference = library_text.first_difference(&second_text);
+        let text = String::from_utf8_lossy(second_text.content()).into_owned();
+        format!(
+            "frost_digit_text_write\n  case:    {:?}, room {}\n  \
+             library: {:?}\n  second:  {:?} {:?}\n  first byte that differs (library, second): {}",
+            word, room, library, second, text, difference
+        )
+    });
+    library_text.content().to_vec()
+}
+
+/// Reads a text; it is lent, so it must stay as it was.
+pub fn compare_read(text: &[u8], unit: i32, record: &mut Record) -> Reply {
+    let mut lent = Lent::holding_bytes(text, record.cases);
+    let before = lent.clone();
+    fall::about_to_call("frost_digit_text_read", None, text);
+    let answer = unsafe { frost_digit_text_read(lent.pointer(), text.len(), unit) };
+    fall::back();
+    let library: Reply = answer.into();
+    let answer = digit_text::read(text, unit as i128);
+    let is_its_text = answer.refusal != DONE || is_text_of(text, answer.word);
+    let second: Reply = answer.into();
+    record.answer(TEXT_READ, library.refusal);
+    let agrees = library == second && lent == before && is_its_text;
+    record.check(agrees, || {
+        format!(
+            "frost_digit_text_read\n  case:    {:?}, unit {}\n  library: {:?}\n  second:  {:?}\n  \
+             first byte of the text changed: {}, second's word has this text: {}",
+            String::from_utf8_lossy(text),
+            unit,
+            library,
+            second,
+            lent.first_difference(&before),
+            is_its_text
+        )
+    });
+    library
+}
+
+/// "The answer is the word whose digit text it is": asked of the second
+/// program itself, whose reading does not go by its writing.
+fn is_text_of(text: &[u8], word: RoundBit) -> bool {
+    let mut again = vec![0; text.len()];
+    digit_text::write(word, &mut again).refusal == DONE && again == text
+}
