@@ -5,7 +5,7 @@
 use libc::STDIN_FILENO;
 use libc::STDOUT_FILENO;
 
-const ROOM: usize = 40013;
+const ROOM: usize = block_file::LONGEST_FILE + 1;
 
 fn main() {
     let mut file = [0u8; ROOM];
