@@ -21,7 +21,7 @@ use Rattle.words.specs.declared.PlainWord.{PlainWord}
 use Rattle.words.specs.declared.RoundBitWord.{RoundBitWord}
 use Rattle.words.specs.declared.HalfUnitWord.{HalfUnitWord}
 use Rattle.words.proofs.Flat.{Flat, flat, laidFlat, flatRoundBit, flatHalfUnit, sameFlat, plainAt, roundBitAt, halfUnitAt, done, refused}
-use Rattle.round_bit.specs.Cuts.{signChangeWord, cutWord, cutAnswer, cutOf, restWord, restOf, evenRoundBit, evenCutWord, evenCutAnswer, evenCutOf, widenWord, widenOf}
+use Rattle.round_bit.specs.Cuts.{signChangeWord, cutWord, cutOf, restWord, restOf, evenRoundBit, evenCutWord, evenCutOf, widenWord, widenOf}
 use Rattle.round_bit.specs.Sums.{sumWord, sumOf, differenceOf}
 use Rattle.round_bit.specs.Products.{magnitudeProduct, multiplied, productWord, productOf}
 use Rattle.half_unit.specs.Conversions.{fromPlainUpWord, fromPlainUpOf, evenFloor, fromPlainEvenWord, fromPlainEvenOf}
@@ -153,5 +153,5 @@ bench =
 
 -- there is a row for each of P1 to P14, and every check of every row holds
 bench-holds : (length bench ≡ 14) × (hold bench ≡ true)
-unfolding fitsWidth floorBy lowest cleared digit digitsBelow anyBelow lowDigits value formatCheck wordCheck narrowerCheck answerCheck plainCheck roundBitCheck roundBitFitted halfUnitCheck halfUnitFitted lentAfter writeAnswer signChangeWord cutWord cutAnswer restWord evenRoundBit evenCutWord evenCutAnswer widenWord sumWord magnitudeProduct multiplied productWord fromPlainUpWord evenFloor fromPlainEvenWord sumUpWord sumEvenWord Half.multiplied Half.productWord signedDigit byteOf byteAt textOf writeCheck writeOf bufferOf depthCheck openAnswer openOf stepped putCheck stepOf
+unfolding fitsWidth floorBy lowest cleared digit digitsBelow anyBelow lowDigits value formatCheck wordCheck narrowerCheck answerCheck plainCheck roundBitCheck roundBitFitted halfUnitCheck halfUnitFitted lentAfter writeAnswer signChangeWord cutWord restWord evenRoundBit evenCutWord widenWord sumWord magnitudeProduct multiplied productWord fromPlainUpWord evenFloor fromPlainEvenWord sumUpWord sumEvenWord Half.multiplied Half.productWord signedDigit byteOf byteAt textOf writeCheck writeOf bufferOf depthCheck openAnswer openOf stepped putCheck stepOf
 bench-holds = (refl, refl)

@@ -1,15 +1,22 @@
--- What a passed check of each operation tells. Assumes nothing.
+-- What a passed check of each operation tells, and the word that a cut or a conversion with a depth makes. Assumes nothing.
 use Prim.Native.Nat.{ℕ}
 use mathlib.Core.Path.{_≡_}
-use Rattle.words.specs.Formats.{narrowerCheck, wider, answerCheck}
+use lib.IntN.{ℤ}
+use mir.Syntax.{w64}
+use mir.Val.{SFits, toZ, ofZ}
+use mir.Facts.{toZ-ofZ}
+use Rattle.words.specs.Formats.{narrower, narrowerCheck, wider, answerCheck, formatAnswer}
 use Rattle.words.specs.Plain.{plainCheck}
 use Rattle.words.specs.RoundBit.{roundBitCheck}
-use Rattle.words.specs.HalfUnit.{halfUnitCheck}
+use Rattle.words.specs.HalfUnit.{halfUnitWord, halfUnitCheck}
 use Rattle.words.specs.declared.Outcome.the-variants.{Done}
+use Rattle.words.specs.declared.Format.{Format}
+use Rattle.words.specs.declared.FormatAnswer.{FormatAnswer}
 use Rattle.words.specs.declared.PlainWord.{PlainWord}
 use Rattle.words.specs.declared.RoundBitWord.{RoundBitWord}
 use Rattle.words.specs.declared.HalfUnitWord.{HalfUnitWord}
 use Rattle.words.proofs.Laws.{both-passed, three-passed}
+use Rattle.words.proofs.Formats.{answer-format}
 use Rattle.half_unit.specs.Cuts.{cutCheck}
 use Rattle.half_unit.specs.Conversions.{fromPlainCheck, toPlainCheck, fromRoundBitCheck}
 use Rattle.half_unit.specs.Sums.{sumCheck}
@@ -32,3 +39,7 @@ sum-passed x y e = let p = three-passed (halfUnitCheck x) (halfUnitCheck y) _ e 
 
 pub product-passed : (x y : HalfUnitWord) → productCheck x y ≡ Done → (halfUnitCheck x ≡ Done) × (halfUnitCheck y ≡ Done) × (answerCheck (productFormat (x .format) (y .format)) ≡ Done)
 product-passed x y e = three-passed (halfUnitCheck x) (halfUnitCheck y) _ e
+
+-- ---- a number q that the code made of x by a rule, in the format that it was handed for the depth
+pub narrowed : (rule : ℤ → ℕ → ℤ) (f : Format) (x q : ℤ) (d : ℕ) (a : FormatAnswer) → SFits w64 x → narrowerCheck f d ≡ Done → a ≡ formatAnswer (narrowerCheck f d) (narrower f d) → SFits w64 q → q ≡ rule (toZ w64 (ofZ w64 x)) d → halfUnitWord (toZ w64 (ofZ w64 q)) (a .format) ≡ halfUnitWord (rule x d) (narrower f d)
+narrowed rule f x q d a s p e t g = rw (e, answer-format _ _ p, toZ-ofZ t, g, toZ-ofZ s)

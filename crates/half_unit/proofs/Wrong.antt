@@ -17,7 +17,7 @@ use Rattle.words.proofs.Flat.{Flat, flat, laidFlat, flatPlain, flatRoundBit, fl
 use Rattle.words.specs.declared.PlainWord.{PlainWord}
 use Rattle.words.specs.declared.RoundBitWord.{RoundBitWord}
 use Rattle.words.specs.declared.HalfUnitWord.{HalfUnitWord}
-use Rattle.half_unit.specs.Cuts.{signChangeWord, signChangeOf, cutWord, cutAnswer, cutOf}
+use Rattle.half_unit.specs.Cuts.{signChangeWord, signChangeOf, cutWord, cutOf}
 use Rattle.half_unit.specs.Conversions.{fromPlainUpWord, fromPlainUpOf, evenFloor, fromPlainEvenWord, fromPlainEvenOf, toPlainWord, toPlainOf, toRoundBitWord, toRoundBitOf, fromRoundBitWord, fromRoundBitOf}
 use Rattle.half_unit.specs.Sums.{sumUpWord, sumUpOf, sumEvenWord, sumEvenOf}
 use Rattle.half_unit.specs.Products.{multiplied, productWord, productOf}
@@ -92,5 +92,5 @@ abbrev differs : Row → Bool
 differs r = not (sameFlat (answer r) (claimed r))
 
 all-wrong : all (length wrong) (λ k. differs (getD wrong k (signChange (at 5 (pos 3)) (refused 3)))) ≡ true
-unfolding firstBad fitsWidth floorBy lowest cleared digit anyBelow formatCheck wordCheck narrowerCheck answerCheck plainCheck roundBitCheck halfUnitCheck halfUnitFitted signChangeWord cutWord cutAnswer fromPlainUpWord evenFloor fromPlainEvenWord toPlainWord toRoundBitWord fromRoundBitWord sumUpWord sumEvenWord multiplied productWord
+unfolding firstBad fitsWidth floorBy lowest cleared digit anyBelow formatCheck wordCheck narrowerCheck answerCheck plainCheck roundBitCheck halfUnitCheck halfUnitFitted signChangeWord cutWord fromPlainUpWord evenFloor fromPlainEvenWord toPlainWord toRoundBitWord fromRoundBitWord sumUpWord sumEvenWord multiplied productWord
 all-wrong = refl

@@ -1,6 +1,6 @@
 -- Document 01, "Half-unit words": sign change and cut.
 use Rattle.integers.specs.Names.{ℕ, turned, floorBy}
-use Rattle.words.specs.{declared.{Outcome.{Outcome, the-variants.{Done, Refused}}, HalfUnitWord.HalfUnitWord, HalfUnitAnswer.HalfUnitAnswer}, Refusals._orElse_, Formats.{narrower, narrowerCheck}, HalfUnit.{halfUnitWord, halfUnitCheck, halfUnitRefused, halfUnitDone, _andThen_}}
+use Rattle.words.specs.{declared.{Outcome.Outcome, HalfUnitWord.HalfUnitWord, HalfUnitAnswer.HalfUnitAnswer}, Refusals._orElse_, Formats.{narrower, narrowerCheck}, HalfUnit.{halfUnitWord, halfUnitCheck, halfUnitDone, _andThen_}}
 use Rattle.half_unit.specs.declared.CutAnswer.{CutAnswer}
 
 -- "Sign change: -1-w."
@@ -18,10 +18,9 @@ cutWord w d = halfUnitWord (floorBy (w .number .0) d) (narrower (w .format) d)
 abbrev pub cutCheck : HalfUnitWord → ℕ → Outcome
 cutCheck w d = halfUnitCheck w orElse narrowerCheck (w .format) d
 
--- the answer of a cut: the word, or the refusal with the blank word
-unfoldable pub cutAnswer : Outcome → HalfUnitWord → CutAnswer
-cutAnswer Done w = record { outcome = Done; word = w }
-cutAnswer (Refused c) w = record { outcome = Refused c; word = halfUnitRefused c .word }
+-- the answer of a cut has what any answer has
+abbrev pub cutAnswer : HalfUnitAnswer → CutAnswer
+cutAnswer a = record { outcome = a .outcome; word = a .word }
 
 abbrev pub cutOf : HalfUnitWord → ℕ → CutAnswer
-cutOf w d = cutAnswer (cutCheck w d) (cutWord w d)
+cutOf w d = cutAnswer (cutCheck w d andThen halfUnitDone (cutWord w d))

@@ -1,6 +1,6 @@
 -- Document 01, "Half-unit words": product.
 use Rattle.integers.specs.Names.{_+_, ℤ, pos, _+ℤ_, _-ℤ_, _*ℤ_, floorBy}
-use Rattle.words.specs.{declared.{Outcome.Outcome, Format.Format, HalfUnitWord.HalfUnitWord, HalfUnitAnswer.HalfUnitAnswer}, Refusals._orElse_, Formats.{format, answerCheck}, HalfUnit.{halfUnitWord, halfUnitCheck, halfUnitDone, _andThen_}}
+use Rattle.words.specs.{declared.{Outcome.Outcome, Format.Format, HalfUnitWord.HalfUnitWord, HalfUnitAnswer.HalfUnitAnswer}, Refusals._orElse_, Formats.{format, unitsMultiplied, answerCheck}, HalfUnit.{halfUnitWord, halfUnitCheck, halfUnitDone, _andThen_}}
 
 -- "((2x+1)(2y+1) - 1) / 2": both factors are odd, so nothing is left over
 unfoldable pub multiplied : ℤ → ℤ → ℤ
@@ -8,7 +8,7 @@ multiplied x y = floorBy ((((pos 2 *ℤ x) +ℤ pos 1) *ℤ ((pos 2 *ℤ y) +ℤ
 
 -- "width n+m, unit exponent the two added, less 1"
 abbrev pub productFormat : Format → Format → Format
-productFormat f g = format (f .width + g .width) ((f .unit +ℤ g .unit) -ℤ pos 1)
+productFormat f g = format (f .width + g .width) (unitsMultiplied f g -ℤ pos 1)
 
 unfoldable pub productWord : HalfUnitWord → HalfUnitWord → HalfUnitWord
 productWord x y = halfUnitWord (multiplied (x .number .0) (y .number .0)) (productFormat (x .format) (y .format))

@@ -84,22 +84,14 @@ fn cut_word(w: HalfUnitWord, d: u64) -> HalfUnitWord
     }
 }
 
-fn cut_answer(o: Outcome, w: HalfUnitWord) -> CutAnswer
-    ensures { λ r. ⌜ r ≡ cutAnswer o w ⌝ }
+fn cut_answer(a: HalfUnitAnswer) -> CutAnswer
+    ensures { λ r. ⌜ r ≡ cutAnswer a ⌝ }
 {
-    match o {
-        Outcome::Refused(c) => {
-            let a = words::half_unit_refused(c);
-            let blank = a.word;
-            CutAnswer {
-                outcome: Outcome::Refused(c),
-                word: blank,
-            }
-        }
-        Outcome::Done => CutAnswer {
-            outcome: Outcome::Done,
-            word: w,
-        },
+    let o = a.outcome;
+    let w = a.word;
+    CutAnswer {
+        outcome: o,
+        word: w,
     }
 }
 
@@ -107,8 +99,8 @@ pub fn cut(w: HalfUnitWord, d: u64) -> CutAnswer
     ensures { λ r. ⌜ r ≡ cutOf w d ⌝ }
 {
     match cut_check(w, d) {
-        Outcome::Refused(c) => cut_answer(Outcome::Refused(c), w),
-        Outcome::Done => cut_answer(Outcome::Done, cut_word(w, d)),
+        Outcome::Refused(c) => cut_answer(words::half_unit_refused(c)),
+        Outcome::Done => cut_answer(words::half_unit_done(cut_word(w, d))),
     }
 }
 
@@ -351,7 +343,7 @@ fn product_format(f: Format, g: Format) -> FormatAnswer
 {
     words::formed(
         (f.width as u64) + (g.width as u64),
-        (f.unit as i64) + (g.unit as i64) - 1,
+        words::units_multiplied(f, g) - 1,
     )
 }
 

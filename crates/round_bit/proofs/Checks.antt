@@ -4,11 +4,12 @@ use native.Mathlib.Omega.{arith}
 use mathlib.Core.Path.{_≡_, refl}
 use Rattle.integers.specs.Numbers.{floorBy, digit, lowDigits}
 use Rattle.words.specs.Formats.{narrower, narrowerCheck, wider, answerCheck}
-use Rattle.words.specs.RoundBit.{roundBitWord, roundBitCheck, roundBitDone, _andThen_}
+use Rattle.words.specs.RoundBit.{roundBitWord, roundBitCheck, roundBitRefused, roundBitDone, _andThen_}
 use Rattle.words.specs.declared.Outcome.{Outcome}
 use Rattle.words.specs.declared.Outcome.the-variants.{Done, Refused}
 use Rattle.words.specs.declared.RoundBitWord.{RoundBitWord}
 use Rattle.words.proofs.Laws.{refused-not-done, both-passed, three-passed}
+use Rattle.words.proofs.Operands.{outcome-kept}
 use Rattle.round_bit.specs.Cuts.{cutWord, cutCheck, restWord, evenRoundBit, evenCutWord, widenCheck}
 use Rattle.round_bit.specs.Sums.{sumCheck}
 use Rattle.round_bit.specs.Products.{productFormat, productCheck}
@@ -17,6 +18,9 @@ use Rattle.round_bit.specs.Products.{productFormat, productCheck}
 pub word-done : (o : Outcome) (w : RoundBitWord) → (o andThen roundBitDone w) .outcome ≡ Done → (o ≡ Done) × ((o andThen roundBitDone w) .word ≡ w)
 word-done Done w e = (refl, refl)
 word-done (Refused c) w e = absurd (refused-not-done e)
+
+pub word-outcome : (o : Outcome) (w : RoundBitWord) → (o andThen roundBitDone w) .outcome ≡ o
+word-outcome o w = outcome-kept roundBitRefused (λ a. a .outcome) (λ c. refl) o (roundBitDone w) refl
 
 pub cut-passed : (w : RoundBitWord) (d : ℕ) → cutCheck w d ≡ Done → (roundBitCheck w ≡ Done) × (narrowerCheck (w .format) d ≡ Done)
 cut-passed w d e = both-passed (roundBitCheck w) (narrowerCheck (w .format) d) e

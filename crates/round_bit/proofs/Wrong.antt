@@ -15,7 +15,7 @@ use Rattle.words.specs.RoundBit.{roundBitCheck, roundBitFitted}
 use Rattle.words.proofs.Flat.{Flat, flat, laidFlat, flatPlain, flatRoundBit, sameFlat, plainAt, roundBitAt as at, done, refused}
 use Rattle.words.specs.declared.PlainWord.{PlainWord}
 use Rattle.words.specs.declared.RoundBitWord.{RoundBitWord}
-use Rattle.round_bit.specs.Cuts.{signChangeWord, signChangeOf, cutWord, cutAnswer, cutOf, restWord, restOf, evenRoundBit, evenCutWord, evenCutAnswer, evenCutOf, widenWord, widenOf}
+use Rattle.round_bit.specs.Cuts.{signChangeWord, signChangeOf, cutWord, cutOf, restWord, restOf, evenRoundBit, evenCutWord, evenCutOf, widenWord, widenOf}
 use Rattle.round_bit.specs.Sums.{sumWord, sumOf, differenceOf}
 use Rattle.round_bit.specs.Products.{magnitudeProduct, multiplied, productWord, productOf}
 use Rattle.round_bit.specs.Conversions.{toPlainWord, toPlainOf, fromPlainWord, fromPlainOf}
@@ -88,5 +88,5 @@ abbrev differs : Row → Bool
 differs r = not (sameFlat (answer r) (claimed r))
 
 all-wrong : all (length wrong) (λ k. differs (getD wrong k (toPlain (at 5 (pos 3) 1) (refused 3)))) ≡ true
-unfolding firstBad fitsWidth floorBy lowest digit digitsBelow anyBelow lowDigits formatCheck wordCheck narrowerCheck answerCheck plainCheck plainFitted roundBitCheck roundBitFitted signChangeWord cutWord cutAnswer restWord evenRoundBit evenCutWord evenCutAnswer widenWord sumWord magnitudeProduct multiplied productWord toPlainWord fromPlainWord
+unfolding firstBad fitsWidth floorBy lowest digit digitsBelow anyBelow lowDigits formatCheck wordCheck narrowerCheck answerCheck plainCheck plainFitted roundBitCheck roundBitFitted signChangeWord cutWord restWord evenRoundBit evenCutWord widenWord sumWord magnitudeProduct multiplied productWord toPlainWord fromPlainWord
 all-wrong = refl

@@ -1,6 +1,6 @@
 -- Document 01, "Round-bit words": sign change, cut, rest of a cut, even cut, widening on the right.
 use Rattle.integers.specs.Names.{ℕ, zero, suc, _-_, _*_, _^_, bitAnd, bitOr, ℤ, pos, _+ℤ_, _*ℤ_, turned, floorBy, digit, anyBelow, lowDigits}
-use Rattle.words.specs.{declared.{Outcome.{Outcome, the-variants.{Done, Refused}}, RoundBit.RoundBit, RoundBitWord.RoundBitWord, RoundBitAnswer.RoundBitAnswer}, Refusals._orElse_, Formats.{narrower, narrowerCheck, wider, answerCheck}, RoundBit.{roundBitWord, roundBitCheck, roundBitRefused, roundBitDone, _andThen_}}
+use Rattle.words.specs.{declared.{Outcome.Outcome, RoundBit.RoundBit, RoundBitWord.RoundBitWord, RoundBitAnswer.RoundBitAnswer}, Refusals._orElse_, Formats.{narrower, narrowerCheck, wider, answerCheck}, RoundBit.{roundBitWord, roundBitCheck, roundBitDone, _andThen_}}
 use Rattle.round_bit.specs.declared.{CutAnswer.CutAnswer, EvenCutAnswer.EvenCutAnswer}
 
 -- "Sign change: (-1-a, 1-r)."
@@ -22,13 +22,12 @@ cutWord w (suc k) = roundBitWord (floorBy (w .number .0) (suc k)) (digit (w .num
 abbrev pub cutCheck : RoundBitWord → ℕ → Outcome
 cutCheck w d = roundBitCheck w orElse narrowerCheck (w .format) d
 
--- the answer of a cut: the word, or the refusal with the blank word
-unfoldable pub cutAnswer : Outcome → RoundBitWord → CutAnswer
-cutAnswer Done w = record { outcome = Done; word = w }
-cutAnswer (Refused c) w = record { outcome = Refused c; word = roundBitRefused c .word }
+-- the answer of a cut, and of an even cut, has what any answer has
+abbrev pub cutAnswer : RoundBitAnswer → CutAnswer
+cutAnswer a = record { outcome = a .outcome; word = a .word }
 
 abbrev pub cutOf : RoundBitWord → ℕ → CutAnswer
-cutOf w d = cutAnswer (cutCheck w d) (cutWord w d)
+cutOf w d = cutAnswer (cutCheck w d andThen roundBitDone (cutWord w d))
 
 -- "Rest of a cut, refused as the cut is: a round-bit word of the old width and unit. For d = 0 it is (0,0). For d >= 1 its number is the
 -- low d digits read as two's complement, its round bit the old r."
@@ -48,12 +47,11 @@ unfoldable pub evenCutWord : RoundBitWord → ℕ → RoundBitWord
 evenCutWord w zero = w
 evenCutWord w (suc k) = roundBitWord (floorBy (w .number .0) (suc k)) (evenRoundBit (w .number .0) k) (narrower (w .format) (suc k))
 
-unfoldable pub evenCutAnswer : Outcome → RoundBitWord → EvenCutAnswer
-evenCutAnswer Done w = record { outcome = Done; word = w }
-evenCutAnswer (Refused c) w = record { outcome = Refused c; word = roundBitRefused c .word }
+abbrev pub evenCutAnswer : RoundBitAnswer → EvenCutAnswer
+evenCutAnswer a = record { outcome = a .outcome; word = a .word }
 
 abbrev pub evenCutOf : RoundBitWord → ℕ → EvenCutAnswer
-evenCutOf w d = evenCutAnswer (cutCheck w d) (evenCutWord w d)
+evenCutOf w d = evenCutAnswer (cutCheck w d andThen roundBitDone (evenCutWord w d))
 
 -- "Widen on the right by d: (a * 2^d + r * (2^d - 1), r), width n+d, unit e-d."
 unfoldable pub widenWord : RoundBitWord → ℕ → RoundBitWord

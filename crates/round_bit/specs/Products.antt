@@ -1,6 +1,6 @@
 -- Document 01, "Round-bit words": product.
 use Rattle.integers.specs.Names.{_+_, _-_, Bool, true, false, bitAnd, pos, _+ℤ_, _*ℤ_, ltZ}
-use Rattle.words.specs.{declared.{Outcome.Outcome, Format.Format, RoundBit.RoundBit, RoundBitWord.RoundBitWord, RoundBitAnswer.RoundBitAnswer}, Refusals._orElse_, Formats.{format, answerCheck}, RoundBit.{roundBitCheck, roundBitDone, _andThen_}}
+use Rattle.words.specs.{declared.{Outcome.Outcome, Format.Format, RoundBit.RoundBit, RoundBitWord.RoundBitWord, RoundBitAnswer.RoundBitAnswer}, Refusals._orElse_, Formats.{format, unitsMultiplied, answerCheck}, RoundBit.{roundBitCheck, roundBitDone, _andThen_}}
 use Rattle.round_bit.specs.Cuts.{signChanged}
 
 -- "for operands with a, b >= 0 it is (ab + a rb + b ra, ra rb) (000, Definition 10)"
@@ -30,7 +30,7 @@ multiplied m n = signChangedIf (exactlyOne (negative m) (negative n)) (magnitude
 
 -- "Product, width n+m-1, units multiplied"
 abbrev pub productFormat : Format → Format → Format
-productFormat f g = format (f .width + g .width - 1) (f .unit +ℤ g .unit)
+productFormat f g = format (f .width + g .width - 1) (unitsMultiplied f g)
 
 unfoldable pub productWord : RoundBitWord → RoundBitWord → RoundBitWord
 productWord x y = record { number = multiplied (x .number) (y .number); format = productFormat (x .format) (y .format) }

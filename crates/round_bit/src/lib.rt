@@ -99,22 +99,14 @@ fn cut_word(w: RoundBitWord, d: u64) -> RoundBitWord
     }
 }
 
-fn cut_answer(o: Outcome, w: RoundBitWord) -> CutAnswer
-    ensures { λ r. ⌜ r ≡ cutAnswer o w ⌝ }
+fn cut_answer(a: RoundBitAnswer) -> CutAnswer
+    ensures { λ r. ⌜ r ≡ cutAnswer a ⌝ }
 {
-    match o {
-        Outcome::Refused(c) => {
-            let a = words::round_bit_refused(c);
-            let blank = a.word;
-            CutAnswer {
-                outcome: Outcome::Refused(c),
-                word: blank,
-            }
-        }
-        Outcome::Done => CutAnswer {
-            outcome: Outcome::Done,
-            word: w,
-        },
+    let o = a.outcome;
+    let w = a.word;
+    CutAnswer {
+        outcome: o,
+        word: w,
     }
 }
 
@@ -122,8 +114,8 @@ pub fn cut(w: RoundBitWord, d: u64) -> CutAnswer
     ensures { λ r. ⌜ r ≡ cutOf w d ⌝ }
 {
     match cut_check(w, d) {
-        Outcome::Refused(c) => cut_answer(Outcome::Refused(c), w),
-        Outcome::Done => cut_answer(Outcome::Done, cut_word(w, d)),
+        Outcome::Refused(c) => cut_answer(words::round_bit_refused(c)),
+        Outcome::Done => cut_answer(words::round_bit_done(cut_word(w, d))),
     }
 }
 
@@ -182,22 +174,14 @@ fn even_cut_word(w: RoundBitWord, d: u64) -> RoundBitWord
     }
 }
 
-fn even_cut_answer(o: Outcome, w: RoundBitWord) -> EvenCutAnswer
-    ensures { λ r. ⌜ r ≡ evenCutAnswer o w ⌝ }
+fn even_cut_answer(a: RoundBitAnswer) -> EvenCutAnswer
+    ensures { λ r. ⌜ r ≡ evenCutAnswer a ⌝ }
 {
-    match o {
-        Outcome::Refused(c) => {
-            let a = words::round_bit_refused(c);
-            let blank = a.word;
-            EvenCutAnswer {
-                outcome: Outcome::Refused(c),
-                word: blank,
-            }
-        }
-        Outcome::Done => EvenCutAnswer {
-            outcome: Outcome::Done,
-            word: w,
-        },
+    let o = a.outcome;
+    let w = a.word;
+    EvenCutAnswer {
+        outcome: o,
+        word: w,
     }
 }
 
@@ -205,8 +189,8 @@ pub fn even_cut(w: RoundBitWord, d: u64) -> EvenCutAnswer
     ensures { λ r. ⌜ r ≡ evenCutOf w d ⌝ }
 {
     match cut_check(w, d) {
-        Outcome::Refused(c) => even_cut_answer(Outcome::Refused(c), w),
-        Outcome::Done => even_cut_answer(Outcome::Done, even_cut_word(w, d)),
+        Outcome::Refused(c) => even_cut_answer(words::round_bit_refused(c)),
+        Outcome::Done => even_cut_answer(words::round_bit_done(even_cut_word(w, d))),
     }
 }
 
@@ -341,7 +325,7 @@ fn product_format(f: Format, g: Format) -> FormatAnswer
 {
     words::formed(
         (f.width as u64) + (g.width as u64) - 1,
-        (f.unit as i64) + (g.unit as i64),
+        words::units_multiplied(f, g),
     )
 }
 

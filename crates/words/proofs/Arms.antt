@@ -1,7 +1,7 @@
 -- The arms of a match on the outcome of a check, each at its own goal: `search arms` finds in what the arm was handed what the check
 -- ensures, how its outcome fell and what was answered. Assumes nothing.
 use Prim.Native.Nat.{ℕ}
-use mathlib.Core.Path.{_≡_, sym, _∙_}
+use mathlib.Core.Path.{_≡_, sym, ap, _∙_}
 use mathlib.Core.Bool.{Bool, true, false}
 use lib.IntN.{ℤ}
 use mir.Syntax.{w64}
@@ -28,12 +28,12 @@ refusing refused o p c a r e f g = g ∙ rw (← e, f)
 pub answering : {A W : Type 0} (refused : Cause → A) (done : W → A) (o p : Outcome) (w v : W) (r : A) → o ≡ p → o ≡ Done → w ≡ v → r ≡ done w → r ≡ after refused p (done v)
 answering refused done o p w v r e f g h = h ∙ rw (← e, f, g)
 
--- the same where one function makes the answer of both arms, and of a refusal none but its cause counts
-pub refused-answer : {A W : Type 0} (answer : Outcome → W → A) (same : (c : Cause) (w v : W) → answer (Refused c) w ≡ answer (Refused c) v) (o p : Outcome) (c : Cause) (w v : W) (r : A) → o ≡ p → o ≡ Refused c → r ≡ answer (Refused c) w → r ≡ answer p v
-refused-answer answer same o p c w v r e f g = g ∙ same c w v ∙ rw (← e, f)
+-- the same where the answer is handed on in another struct
+pub refused-into : {A B : Type 0} (into : A → B) (refused : Cause → A) (o p : Outcome) (c : Cause) (a b : A) (r : B) → o ≡ p → o ≡ Refused c → b ≡ refused c → r ≡ into b → r ≡ into (after refused p a)
+refused-into into refused o p c a b r e f g h = h ∙ ap into (refusing refused o p c a b e f g)
 
-pub done-answer : {A W : Type 0} (answer : Outcome → W → A) (o p : Outcome) (w v : W) (r : A) → o ≡ p → o ≡ Done → w ≡ v → r ≡ answer Done w → r ≡ answer p v
-done-answer answer o p w v r e f g h = h ∙ rw (← e, f, g)
+pub done-into : {A B W : Type 0} (into : A → B) (refused : Cause → A) (done : W → A) (o p : Outcome) (w v : W) (b : A) (r : B) → o ≡ p → o ≡ Done → w ≡ v → b ≡ done w → r ≡ into b → r ≡ into (after refused p (done v))
+done-into into refused done o p w v b r e f g h i = i ∙ ap into (answering refused done o p w v b e f g h)
 
 -- ---- the same of one check behind another
 pub first-refusing : (o p q : Outcome) (c : Cause) → o ≡ p → o ≡ Refused c → Refused c ≡ (p orElse q)

@@ -9,6 +9,7 @@ use Rattle.words.proofs.outside.Reads as outside
 use Rattle.words.proofs.differ.Reads as differ
 use Rattle.words.proofs.format_check.Reads as format-check
 use Rattle.words.proofs.formed.Reads as formed
+use Rattle.words.proofs.units_multiplied.Reads as units-multiplied
 use Rattle.words.proofs.wider.Reads as wider
 use Rattle.words.proofs.narrower.Reads as narrower
 use Rattle.words.proofs.plain_check.Reads as plain-check
@@ -47,6 +48,9 @@ format-check-one a x y e f p q = p ∙ sym q
 
 formed-one : OneResult (formed.Post tt)
 formed-one a x y e f p q = p ∙ sym q
+
+units-multiplied-one : OneResult (units-multiplied.Post tt)
+units-multiplied-one a x y e f p q = p ∙ sym q
 
 wider-one : OneResult (wider.Post tt)
 wider-one a x y e f p q = p ∙ sym q

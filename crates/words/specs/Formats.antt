@@ -17,6 +17,10 @@ narrowerCheck f d = refuse 5 (ltb (f .width - d) 2) orElse refuse 7 (badUnit (f 
 abbrev pub wider : Format → ℕ → Format
 wider f d = format (f .width + d) (f .unit -ℤ pos d)
 
+-- "units multiplied": "unit exponent the two added", of a product
+abbrev pub unitsMultiplied : Format → Format → ℤ
+unitsMultiplied f g = f .unit +ℤ g .unit
+
 -- 6: "the answer's width would pass 63"; then 7: "the answer's unit exponent would leave -127 to 127"
 unfoldable pub answerCheck : Format → Outcome
 answerCheck f = refuse 6 (ltb 63 (f .width)) orElse refuse 7 (badUnit (f .unit))

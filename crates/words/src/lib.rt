@@ -11,7 +11,7 @@ ghost use mathlib.Core.Path.{_≡_};
 ghost use Prim.Native.Nat.{_-_, _^_, _<_};
 ghost use Rattle.words.specs.Words.{badWidth, badUnit, outside, badRoundBit};
 ghost use Rattle.words.specs.Refusals.{numberOf, refuseFor, _orElse_, formatCheck, wordCheck, differ, refuse, blankFormat};
-ghost use Rattle.words.specs.Formats.{format, narrower, narrowerCheck, wider, answerCheck, formatAnswer};
+ghost use Rattle.words.specs.Formats.{format, narrower, narrowerCheck, wider, unitsMultiplied, answerCheck, formatAnswer};
 ghost use Rattle.words.specs.Plain.{plainCheck, plainRefused, plainDone, plainFitted};
 ghost use Rattle.words.specs.RoundBit.{roundBitCheck, roundBitRefused, roundBitDone, roundBitFitted};
 ghost use Rattle.words.specs.HalfUnit.{halfUnitCheck, halfUnitRefused, halfUnitDone, halfUnitFitted};
@@ -231,6 +231,13 @@ pub fn formed(width: u64, unit: i64) -> FormatAnswer
     } else {
         placed(width, unit)
     }
+}
+
+// The unit of a product; an i32 might not hold it.
+pub fn units_multiplied(f: Format, g: Format) -> i64
+    ensures { λ r. ⌜ r ≡ unitsMultiplied f g ⌝ }
+{
+    (f.unit as i64) + (g.unit as i64)
 }
 
 // d digits more on the right: the unit is finer by 2^d.

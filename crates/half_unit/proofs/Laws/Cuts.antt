@@ -14,12 +14,12 @@ use Rattle.words.specs.Refusals.{wordCheck}
 use Rattle.words.specs.Formats.{narrowerCheck}
 use Rattle.words.specs.HalfUnit.{halfUnitValue, halfUnitCheck, halfUnitRefused, halfUnitDone, _andThen_}
 use Rattle.words.specs.declared.Outcome.{Outcome}
-use Rattle.words.specs.declared.Outcome.the-variants.{Done, Refused}
+use Rattle.words.specs.declared.Outcome.the-variants.{Done}
 use Rattle.words.specs.declared.HalfUnitWord.{HalfUnitWord}
 use Rattle.words.proofs.Laws.{both-passed, both-pass, Right, half-unit-right, half-unit-passes, half-unit-law}
 use Rattle.words.proofs.Formats.{narrower-none, narrower-passes, narrower-first, narrower-then, narrower-narrower}
 use Rattle.words.proofs.Rights.{floor-right}
-use Rattle.words.proofs.Operands.{done-passed}
+use Rattle.words.proofs.Operands.{done-passed, outcome-kept}
 use Rattle.half_unit.specs.Cuts.{signChangeWord, signChangeOf, cutWord, cutCheck, cutAnswer, cutOf}
 
 -- ---- how far a value of 2 x + c half units moves where floor (x / 2 ^ d) less l is taken for x: a new half unit is 2 ^ d old ones
@@ -34,14 +34,11 @@ module _ (x v q : ℤ) (c l d : ℕ) (of-v : up v + 2 * down x ≡ 2 * up x + c 
       (omega (arith, minus-law s v, times-law u (pos (2 ^ d)), below-law x d))
 
 -- ---- a cut's answer has the outcome of its check, and a done one the word that it was made with
-cut-answer-outcome : (o : Outcome) (w : HalfUnitWord) → cutAnswer o w .outcome ≡ o
-unfolding cutAnswer
-cut-answer-outcome Done w = refl
-cut-answer-outcome (Refused c) w = refl
+cut-outcome : (w : HalfUnitWord) (d : ℕ) → cutOf w d .outcome ≡ cutCheck w d
+cut-outcome w d = outcome-kept halfUnitRefused (λ a. a .outcome) (λ c. refl) (cutCheck w d) (halfUnitDone (cutWord w d)) refl
 
 cut-done : (w : HalfUnitWord) (d : ℕ) → cutOf w d .outcome ≡ Done → (cutCheck w d ≡ Done) × (cutOf w d .word ≡ cutWord w d)
-unfolding cutAnswer
-cut-done w d e = let c = sym (cut-answer-outcome (cutCheck w d) (cutWord w d)) ∙ e in (c, rw c)
+cut-done w d e = let c = sym (cut-outcome w d) ∙ e in (c, rw c)
 
 -- ---- what the check of a cut tells, and what it asks
 cut-tells : (w : HalfUnitWord) (d : ℕ) → cutCheck w d ≡ Done → Right (w .format) (w .number .0) 0 × (narrowerCheck (w .format) d ≡ Done)
@@ -87,7 +84,7 @@ cut-value w d e =
     let x = w .number .0 in
     rw (cut-done w d e .1) (omega (arith, floor-moves x (halfUnitValue w) (floorBy x d) 1 0 d (half-unit-law x) (omega arith), below-range x d))
 
-pub cut-none : (w : HalfUnitWord) → halfUnitCheck w ≡ Done → cutOf w 0 ≡ cutAnswer Done w
+pub cut-none : (w : HalfUnitWord) → halfUnitCheck w ≡ Done → cutOf w 0 ≡ cutAnswer (halfUnitDone w)
 unfolding cutWord
 cut-none w e =
     let g = half-unit-right w e in
@@ -105,7 +102,7 @@ cut-cut w a b e =
     let c = cut-done w (a + b) e .0 in
     let t = cut-tells w (a + b) c in
     let first = cut-asks w a (t .0) (narrower-first (w .format) a b (t .0 .format) (t .1)) in
-    let outcome = cut-answer-outcome (cutCheck w a) (cutWord w a) ∙ first in
+    let outcome = cut-outcome w a ∙ first in
     let passes = half-unit-right (cutWord w a) (cut-word-passes w a first) in
     let second = cut-asks (cutWord w a) b passes (narrower-then (w .format) a b (t .0 .format) (t .1)) in
     (outcome, rw (cut-done w a outcome .1, second, c, cut-word-twice w a b))
@@ -113,7 +110,7 @@ cut-cut w a b e =
 -- a cut of the sign-changed word
 pub cut-sign-outcome : (w : HalfUnitWord) (d : ℕ) → cutOf (signChangeWord w) d .outcome ≡ cutOf w d .outcome
 unfolding signChangeWord
-cut-sign-outcome w d = simp (cut-answer-outcome, sign-change-check w)
+cut-sign-outcome w d = rw (cut-outcome (signChangeWord w) d, cut-outcome w d, sign-change-check w)
 
 cut-word-sign : (w : HalfUnitWord) (d : ℕ) → cutWord (signChangeWord w) d ≡ signChangeWord (cutWord w d)
 unfolding cutWord signChangeWord

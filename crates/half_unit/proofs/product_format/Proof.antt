@@ -1,37 +1,30 @@
-use mathlib.Core.Path.{_∙_}
-use mir.Syntax.{w32}
-use mir.Val.{SFits}
+use mathlib.Core.Path.{_≡_, _∙_}
+use lib.IntN.{pos, _-ℤ_}
+use mir.Syntax.{w32, w64}
+use mir.Val.{SFits, toZ, ofZ}
 use mir.Facts.{toZ-ofZ}
-use Rattle.integers.proofs.Widened.{wide, widened, sum-wide}
+use Rattle.integers.proofs.Widened.{sum-wide}
+use Rattle.words.specs.Formats.{unitsMultiplied}
 use borrow.Author.Needs.{needs}
 use Rattle.half_unit.proofs.product_format.Statement.{statement}
 use Rattle.half_unit.proofs.product_format.Tie as tie
 
-module _ (c : tie.After-struct-told2) where
-  first : SFits w32 (c .before .before .before .before .before .before .args .f .unit)
-  first = search needs
+module _ (c : tie.After-units-multiplied) where
+  told : let a = c .before .before .before .args in toZ w64 (ofZ w64 (c .units-multiplied .result)) ≡ unitsMultiplied (a .f) (a .g)
+  told = toZ-ofZ (record { sfits = c .units-multiplied .ok }) ∙ c .units-multiplied .ensures
 
-  second : SFits w32 (c .before .before .before .before .before .before .args .g .unit)
-  second = search needs
-
-cast-formed-3 : tie.Need-cast-formed-3
-cast-formed-3 c = let u : SFits w32 (c .before .before .before .before .args .f .unit) = search needs in wide u
-
-cast-formed-4 : tie.Need-cast-formed-4
-cast-formed-4 c = let u : SFits w32 (c .before .before .before .before .before .before .args .g .unit) = search needs in wide u
-
-add-formed-2 : tie.Need-add-formed-2
-add-formed-2 c = rw (widened (first c), widened (second c)) (sum-wide (first c) (second c) .0)
+  less-one : let a = c .before .before .before .args in SFits w64 (unitsMultiplied (a .f) (a .g) -ℤ pos 1)
+  less-one =
+      let a = c .before .before .before .args in
+      let first : SFits w32 (a .f .unit) = search needs in
+      let second : SFits w32 (a .g .unit) = search needs in
+      sum-wide first second .1
 
 sub-formed : tie.Need-sub-formed
-sub-formed c =
-    let s = sum-wide (first c) (second c) in rw (widened (first c), widened (second c), toZ-ofZ (s .0)) (s .1)
+sub-formed c = rw (told c) (less-one c)
 
 returns : tie.Need-returns
-returns c =
-    let b = c .before in
-    let s = sum-wide (first b) (second b) in
-    c .formed .ensures ∙ rw (widened (first b), widened (second b), toZ-ofZ (s .0), toZ-ofZ (s .1))
+returns c = c .formed .ensures ∙ rw (told (c .before), toZ-ofZ (less-one (c .before)))
 
 pub product-format-spec : {M : Type 1} → statement M
-product-format-spec = tie.close (tie.spec (λ c. search needs) (λ c. search needs) (λ c. search needs) cast-formed-3 cast-formed-4 add-formed-2 sub-formed (λ c κs. search needs) returns)
+product-format-spec = tie.close (tie.spec (λ c. search needs) (λ c. search needs) (λ c. search needs) (λ c κs. search needs) sub-formed (λ c κs. search needs) returns)

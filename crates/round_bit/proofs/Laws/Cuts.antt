@@ -13,27 +13,19 @@ use Rattle.integers.proofs.LowDigits.{low-range, floor-low-digits}
 use Rattle.words.specs.Words.{value}
 use Rattle.words.specs.Words.Kind.{roundBit}
 use Rattle.words.specs.Formats.{narrower, narrowerCheck}
-use Rattle.words.specs.RoundBit.{roundBitValue, roundBitCheck, roundBitDone, roundBitRefused}
-use Rattle.words.specs.declared.Outcome.{Outcome}
-use Rattle.words.specs.declared.Outcome.the-variants.{Done, Refused}
+use Rattle.words.specs.RoundBit.{roundBitValue, roundBitCheck, roundBitDone}
+use Rattle.words.specs.declared.Outcome.the-variants.{Done}
 use Rattle.words.specs.declared.RoundBitWord.{RoundBitWord}
 use Rattle.words.proofs.Laws.{both-pass, RightRoundBit, round-bit-right, round-bit-passes, round-bit-law}
 use Rattle.words.proofs.Formats.{narrower-none, narrower-passes, narrower-first, narrower-then, narrower-narrower}
 use Rattle.words.proofs.Rights.{nothing-right, floor-right, low-right}
 use Rattle.round_bit.specs.Cuts.{signChangeWord, cutWord, cutCheck, cutAnswer, cutOf, restWord, restOf}
-use Rattle.words.proofs.Operands.{outcome-kept}
-use Rattle.round_bit.proofs.Checks.{word-done, cut-passed}
+use Rattle.round_bit.proofs.Checks.{word-done, word-outcome, cut-passed}
 use Rattle.round_bit.proofs.Laws.Signs.{sign-change-passed}
 
--- ---- a cut's answer has the outcome of its check, and a done one the word that it was made with
-cut-answer-outcome : (o : Outcome) (w : RoundBitWord) → cutAnswer o w .outcome ≡ o
-unfolding cutAnswer
-cut-answer-outcome Done w = refl
-cut-answer-outcome (Refused c) w = refl
-
+-- ---- a done answer passed its check, and has the word that it was made with
 pub cut-done : (w : RoundBitWord) (d : ℕ) → cutOf w d .outcome ≡ Done → (cutCheck w d ≡ Done) × (cutOf w d .word ≡ cutWord w d)
-unfolding cutAnswer
-cut-done w d e = let c = sym (cut-answer-outcome (cutCheck w d) (cutWord w d)) ∙ e in (c, rw c)
+cut-done w d e = word-done (cutCheck w d) (cutWord w d) e
 
 pub rest-done : (w : RoundBitWord) (d : ℕ) → restOf w d .outcome ≡ Done → (cutCheck w d ≡ Done) × (restOf w d .word ≡ restWord w d)
 rest-done w d e = word-done (cutCheck w d) (restWord w d) e
@@ -96,7 +88,7 @@ cut-near w d h =
 pub cut-value : (w : RoundBitWord) (d : ℕ) → cutOf w d .outcome ≡ Done → natAbs ((roundBitValue (cutOf w d .word) *ℤ pos (2 ^ d)) -ℤ roundBitValue w) ≤ 2 ^ d
 cut-value w d e = let c = cut-done w d e in rw (c .1) (cut-near w d (cut-tells w d (c .0) .0 .bit))
 
-pub cut-none : (w : RoundBitWord) → roundBitCheck w ≡ Done → cutOf w 0 ≡ cutAnswer Done w
+pub cut-none : (w : RoundBitWord) → roundBitCheck w ≡ Done → cutOf w 0 ≡ cutAnswer (roundBitDone w)
 unfolding cutWord
 cut-none w e =
     let g = round-bit-right w e in
@@ -128,7 +120,7 @@ cut-cut w a b e =
     let c = cut-done w (a + b) e .0 in
     let t = cut-tells w (a + b) c in
     let first = cut-passes w a (t .0) (narrower-first (w .format) a b (t .0 .format) (t .1)) in
-    let outcome = cut-answer-outcome (cutCheck w a) (cutWord w a) ∙ first in
+    let outcome = word-outcome (cutCheck w a) (cutWord w a) ∙ first in
     let then : narrowerCheck (cutWord w a .format) b ≡ Done = rw (cut-format w a) (narrower-then (w .format) a b (t .0 .format) (t .1)) in
     let second = cut-passes (cutWord w a) b (cut-right w a first) then in
     (outcome, rw (cut-done w a outcome .1, second, c, cut-word-twice w a b))
@@ -144,7 +136,7 @@ cut-sign-word w zero = refl
 cut-sign-word w (suc k) = rw (floor-turned (w .number .0) (suc k), digit-turned (w .number .0) k)
 
 pub cut-sign-outcome : (w : RoundBitWord) (d : ℕ) → roundBitCheck w ≡ Done → cutOf (signChangeWord w) d .outcome ≡ cutOf w d .outcome
-cut-sign-outcome w d e = simp (cut-answer-outcome, cut-sign-check w d e)
+cut-sign-outcome w d e = simp (word-outcome, cut-sign-check w d e)
 
 pub cut-sign : (w : RoundBitWord) (d : ℕ) → cutOf w d .outcome ≡ Done → cutOf (signChangeWord w) d .word ≡ signChangeWord (cutOf w d .word)
 cut-sign w d e =
@@ -154,9 +146,7 @@ cut-sign w d e =
 
 -- ---- rest: value = cut value * 2 ^ d + rest value, and the rest is at most half a new unit either way
 pub rest-refuses : (w : RoundBitWord) (d : ℕ) → restOf w d .outcome ≡ cutOf w d .outcome
-rest-refuses w d =
-    outcome-kept roundBitRefused (λ a. a .outcome) (λ c. refl) (cutCheck w d) (roundBitDone (restWord w d)) refl
-    ∙ sym (cut-answer-outcome (cutCheck w d) (cutWord w d))
+rest-refuses w d = word-outcome (cutCheck w d) (restWord w d) ∙ sym (word-outcome (cutCheck w d) (cutWord w d))
 
 pub rest-value : (w : RoundBitWord) (d : ℕ) → cutOf w d .outcome ≡ Done → (roundBitValue (cutOf w d .word) *ℤ pos (2 ^ d)) +ℤ roundBitValue (restOf w d .word) ≡ roundBitValue w
 rest-value w d e = rw (cut-done w d e .1, rest-done w d (rest-refuses w d ∙ e) .1) (rest-adds-back w d)

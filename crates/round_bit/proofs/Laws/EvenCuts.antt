@@ -12,23 +12,17 @@ use Rattle.integers.proofs.Even.{even-bit, even-plain, even-rounds}
 use Rattle.words.specs.Words.{value}
 use Rattle.words.specs.Words.Kind.{roundBit}
 use Rattle.words.specs.RoundBit.{roundBitValue, roundBitCheck}
-use Rattle.words.specs.declared.Outcome.{Outcome}
-use Rattle.words.specs.declared.Outcome.the-variants.{Done, Refused}
+use Rattle.words.specs.declared.Outcome.the-variants.{Done}
 use Rattle.words.specs.declared.RoundBitWord.{RoundBitWord}
 use Rattle.words.proofs.Laws.{RightRoundBit, round-bit-passes, round-bit-law}
 use Rattle.words.proofs.Rights.{floor-right}
-use Rattle.round_bit.specs.Cuts.{cutWord, cutCheck, evenRoundBit, evenCutWord, evenCutAnswer, evenCutOf}
+use Rattle.round_bit.specs.Cuts.{cutWord, cutCheck, evenRoundBit, evenCutWord, evenCutOf}
+use Rattle.round_bit.proofs.Checks.{word-done}
 use Rattle.round_bit.proofs.Laws.Cuts.{cut-tells}
 
--- ---- an even cut's answer has the outcome of its check, and a done one the word that it was made with
-even-cut-outcome : (o : Outcome) (w : RoundBitWord) → evenCutAnswer o w .outcome ≡ o
-unfolding evenCutAnswer
-even-cut-outcome Done w = refl
-even-cut-outcome (Refused c) w = refl
-
+-- ---- a done answer passed its check, and has the word that it was made with
 pub even-cut-done : (w : RoundBitWord) (d : ℕ) → evenCutOf w d .outcome ≡ Done → (cutCheck w d ≡ Done) × (evenCutOf w d .word ≡ evenCutWord w d)
-unfolding evenCutAnswer
-even-cut-done w d e = let c = sym (even-cut-outcome (cutCheck w d) (evenCutWord w d)) ∙ e in (c, rw c)
+even-cut-done w d e = word-done (cutCheck w d) (evenCutWord w d) e
 
 -- ---- closed: the word of a done answer passes its own check
 even-cut-right : (w : RoundBitWord) (d : ℕ) → cutCheck w d ≡ Done → RightRoundBit (evenCutWord w d)

@@ -7,7 +7,7 @@ use Rattle.integers.proofs.Kit.{ints, plus-law, times-law}
 use Rattle.integers.proofs.Floor.{floor-none, floor-widened}
 use Rattle.integers.proofs.Digits.{digit-widened}
 use Rattle.words.specs.Formats.{wider}
-use Rattle.words.specs.RoundBit.{roundBitValue, roundBitCheck}
+use Rattle.words.specs.RoundBit.{roundBitValue, roundBitCheck, roundBitDone}
 use Rattle.words.specs.declared.Outcome.the-variants.{Done}
 use Rattle.words.specs.declared.RoundBitWord.{RoundBitWord}
 use Rattle.words.proofs.Laws.{RightFormat, RightRoundBit, round-bit-passes, round-bit-law}
@@ -54,7 +54,7 @@ widen-cut-word w (suc k) h =
     let record { 0 = a; 1 = r } = w .number in
     rw (floor-widened a r (suc k) h, digit-widened a r k h, narrower-wider (w .format) (suc k))
 
-pub widen-cut : (w : RoundBitWord) (d : ℕ) → widenOf w d .outcome ≡ Done → cutOf (widenOf w d .word) d ≡ cutAnswer Done w
+pub widen-cut : (w : RoundBitWord) (d : ℕ) → widenOf w d .outcome ≡ Done → cutOf (widenOf w d .word) d ≡ cutAnswer (roundBitDone w)
 unfolding widenWord
 widen-cut w d e =
     let c = widen-done w d e in

@@ -1,13 +1,9 @@
-use mathlib.Core.Path.{refl}
-use Rattle.words.proofs.Arms.{arms, refused-answer, done-answer}
+use Rattle.words.specs.RoundBit.{roundBitRefused, roundBitDone}
+use Rattle.words.proofs.Arms.{arms, refused-into, done-into}
 use Rattle.round_bit.specs.Cuts.{evenCutAnswer}
 use borrow.Author.Needs.{needs}
 use Rattle.round_bit.proofs.even_cut.Statement.{statement}
 use Rattle.round_bit.proofs.even_cut.Tie as tie
 
-returns : tie.Need-returns
-unfolding evenCutAnswer
-returns c = search (refused-answer evenCutAnswer (λ k w v. refl))
-
 pub even-cut-spec : {M : Type 1} → statement M
-even-cut-spec = tie.close (tie.spec (λ c κs. search needs) (λ c. search needs) (λ c κs. search needs) (λ c. search needs) (λ c κs. search arms) (λ c κs. search needs) returns (λ c. search (done-answer evenCutAnswer)))
+even-cut-spec = tie.close (tie.spec (λ c κs. search needs) (λ c. search needs) (λ c κs. search needs) (λ c κs. search needs) (λ c. search needs) (λ c κs. search arms) (λ c κs. search needs) (λ c κs. search needs) (λ c. search (refused-into evenCutAnswer roundBitRefused)) (λ c. search (done-into evenCutAnswer roundBitRefused roundBitDone)))
