@@ -8,12 +8,12 @@ use Rattle.words.specs.Formats.{format}
 use Rattle.words.specs.RoundBit.{roundBitWord}
 use Rattle.words.specs.declared.Outcome.the-variants.{Done, Refused}
 use Rattle.digit_text.specs.Digits.{plus, none, minus, digitOf, textValue, signBefore}
-use Rattle.digit_text.specs.Reading.{goodAt, firstFault, faulty, readCheck, readRound, readWord, readAnswer, readOf}
+use Rattle.digit_text.specs.Reading.{goodAt, firstFault, faulty, readCheck, readRound, readWord, readOf}
 
 -- "Digit text `+0+` gives 9; `+-` with unit 0 reads as (1,0), width 2." "`0+` is (0,1)" "All zeros reads as (0,0)"
-readings : (readOf (plus ∷ none ∷ plus ∷ []) (pos 0) ≡ readAnswer (Refused (cause 9 tt)) (roundBitWord (pos 0) 0 (format 2 (pos 0))))
-    × (readOf (plus ∷ minus ∷ []) (pos 0) ≡ readAnswer Done (roundBitWord (pos 1) 0 (format 2 (pos 0))))
-    × (readOf (none ∷ plus ∷ []) (pos 0) ≡ readAnswer Done (roundBitWord (pos 0) 1 (format 2 (pos 0))))
-    × (readOf (none ∷ none ∷ []) (pos 0) ≡ readAnswer Done (roundBitWord (pos 0) 0 (format 2 (pos 0))))
-unfolding firstBad digitOf textValue signBefore goodAt firstFault faulty readCheck readRound readWord readAnswer readOf
+readings : (readOf (plus ∷ none ∷ plus ∷ []) (pos 0) ≡ record { outcome = Refused (cause 9 tt); word = roundBitWord (pos 0) 0 (format 2 (pos 0)) })
+    × (readOf (plus ∷ minus ∷ []) (pos 0) ≡ record { outcome = Done; word = roundBitWord (pos 1) 0 (format 2 (pos 0)) })
+    × (readOf (none ∷ plus ∷ []) (pos 0) ≡ record { outcome = Done; word = roundBitWord (pos 0) 1 (format 2 (pos 0)) })
+    × (readOf (none ∷ none ∷ []) (pos 0) ≡ record { outcome = Done; word = roundBitWord (pos 0) 0 (format 2 (pos 0)) })
+unfolding firstBad digitOf textValue signBefore goodAt firstFault faulty readCheck readRound readWord readOf
 readings = (refl, refl, refl, refl)

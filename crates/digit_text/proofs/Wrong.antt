@@ -17,7 +17,7 @@ use Rattle.words.proofs.Flat.{Flat, laidFlat, sameFlat, roundBitAt as at, done,
 use Rattle.words.specs.declared.RoundBitWord.{RoundBitWord}
 use Rattle.digit_text.specs.Digits.{plus, none, minus, signedDigit, byteOf, digitOf, byteAt, text, textValue, signBefore}
 use Rattle.digit_text.specs.Writing.{writeCheck, writeOf, bufferOf}
-use Rattle.digit_text.specs.Reading.{goodAt, firstFault, faulty, readCheck, readRound, readWord, readAnswer, readOf}
+use Rattle.digit_text.specs.Reading.{goodAt, firstFault, faulty, readCheck, readRound, readWord, readOf}
 
 -- of a writing: the number of its outcome, the count and the whole buffer; of a reading: outcome and word
 data Row : Type 0 where
@@ -53,5 +53,5 @@ wrong =
     ∷ []
 
 all-wrong : all (length wrong) (λ k. differs (getD wrong k (read [] (pos 0) (refused 1)))) ≡ true
-unfolding firstBad fitsWidth floorBy lowest digit formatCheck wordCheck roundBitCheck signedDigit byteOf digitOf byteAt textValue signBefore writeAnswer lentAfter text writeCheck writeOf bufferOf goodAt firstFault faulty readCheck readRound readWord readAnswer readOf
+unfolding firstBad fitsWidth floorBy lowest digit formatCheck wordCheck roundBitCheck signedDigit byteOf digitOf byteAt textValue signBefore writeAnswer lentAfter text writeCheck writeOf bufferOf goodAt firstFault faulty readCheck readRound readWord readOf
 all-wrong = refl

@@ -2,13 +2,11 @@
 use Rattle.integers.specs.Names.{ℕ, zero, suc, _-_, _^_, cond, List, [], _∷_, eqb, ℤ, pos, negsuc, _+ℤ_, _-ℤ_, _*ℤ_, length, getD, digit, tab}
 use Rattle.words.specs.declared.{RoundBit.RoundBit, RoundBitWord.RoundBitWord}
 
--- "Digit i is (digit i-1 of a) minus (digit i of a), with r below the lowest"
-unfoldable pub signedDigit : RoundBit → ℕ → ℤ
+unfoldable pub signedDigit : RoundBit → ℕ → ℤ  -- "Digit i is (digit i-1 of a) minus (digit i of a), with r below the lowest"
 signedDigit n zero = pos (n .1) -ℤ pos (digit (n .0) 0)
 signedDigit n (suc i) = pos (digit (n .0) i) -ℤ pos (digit (n .0) (suc i))
 
--- the three bytes: "`+` is 1, `-` is -1", `0` is 0
-abbrev pub plus : ℕ
+abbrev pub plus : ℕ  -- the three bytes: "`+` is 1, `-` is -1", `0` is 0
 plus = 43
 
 abbrev pub none : ℕ
@@ -25,19 +23,16 @@ byteOf (negsuc d) = minus
 unfoldable pub digitOf : ℕ → ℤ
 digitOf b = cond (eqb b plus) (pos 1) (cond (eqb b minus) (negsuc 0) (pos 0))
 
--- "n bytes, most significant first"
-unfoldable pub byteAt : RoundBitWord → ℕ → ℕ
+unfoldable pub byteAt : RoundBitWord → ℕ → ℕ  -- "n bytes, most significant first"
 byteAt w k = byteOf (signedDigit (w .number) (w .format .width - 1 - k))
 
 unfoldable pub text : RoundBitWord → List ℕ
 text w = tab (w .format .width) (byteAt w)
 
--- what a text is worth: the sum of digit_i * 2^i
-unfoldable pub textValue : List ℕ → ℤ
+unfoldable pub textValue : List ℕ → ℤ  -- what a text is worth: the sum of digit_i * 2^i
 textValue [] = pos 0
 textValue (b ∷ t) = (digitOf b *ℤ pos (2 ^ length t)) +ℤ textValue t
 
--- the sign nearest before index k, or `0` where there is none
-unfoldable pub signBefore : List ℕ → ℕ → ℕ
+unfoldable pub signBefore : List ℕ → ℕ → ℕ  -- the sign nearest before index k, or `0` where there is none
 signBefore t zero = none
 signBefore t (suc k) = cond (eqb (getD t k none) none) (signBefore t k) (getD t k none)

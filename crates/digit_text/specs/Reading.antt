@@ -1,28 +1,24 @@
 -- Document 01, "Digit text": reading back.
 use Rattle.integers.specs.Names.{ℕ, Bool, not, cond, _&&_, _||_, List, eqb, ltb, ℤ, pos, _-ℤ_, length, getD, firstBad}
-use Rattle.words.specs.{declared.{Outcome.{Outcome, the-variants.{Done, Refused}}, RoundBitWord.RoundBitWord}, Words.{badWidth, badUnit}, Refusals.{refuse, _orElse_}, Formats.format, RoundBit.{roundBitWord, roundBitRefused}}
+use Rattle.words.specs.{declared.{Outcome.Outcome, RoundBitWord.RoundBitWord, RoundBitAnswer.RoundBitAnswer}, Words.{badWidth, badUnit}, Refusals.{refuse, _orElse_}, Formats.format, RoundBit.{roundBitWord, roundBitDone, _andThen_}}
 use Rattle.digit_text.specs.{declared.ReadAnswer.ReadAnswer, Digits.{plus, none, minus, textValue, signBefore}}
 
--- a byte "that is not `+`, `0` or `-`"
-abbrev pub strange : ℕ → Bool
+abbrev pub strange : ℕ → Bool  -- a byte "that is not `+`, `0` or `-`"
 strange b = not (eqb b plus || eqb b none || eqb b minus)
 
--- "two nonzero digits of one sign with nothing or only zeros between them": the later of them repeats the sign before it
-abbrev pub repeats : List ℕ → ℕ → Bool
+abbrev pub repeats : List ℕ → ℕ → Bool  -- "two nonzero digits of one sign with nothing or only zeros between them": the later of them repeats the sign before it
 repeats t k = not (eqb (getD t k none) none) && eqb (getD t k none) (signBefore t k)
 
 unfoldable pub goodAt : List ℕ → ℕ → Bool
 goodAt t k = not (strange (getD t k none) || repeats t k)
 
--- the place of the first fault from the start, or the length where there is none
-unfoldable pub firstFault : List ℕ → ℕ
+unfoldable pub firstFault : List ℕ → ℕ  -- the place of the first fault from the start, or the length where there is none
 firstFault t = firstBad (length t) (goodAt t)
 
 unfoldable pub faulty : List ℕ → Bool
 faulty t = ltb (firstFault t) (length t)
 
--- "its length is the width": 1 of the length, 2, then 9
-unfoldable pub readCheck : List ℕ → ℤ → Outcome
+unfoldable pub readCheck : List ℕ → ℤ → Outcome  -- "its length is the width": 1 of the length, 2, then 9
 readCheck t e = refuse 1 (badWidth (length t)) orElse refuse 2 (badUnit e) orElse refuse 9 (faulty t)
 
 -- "the answer is the word whose digit text it is": its value is a + r, and below its lowest nonzero digit all digits of a are r, so r is 1
@@ -33,9 +29,8 @@ readRound t = cond (eqb (signBefore t (length t)) plus) 1 0
 unfoldable pub readWord : List ℕ → ℤ → RoundBitWord
 readWord t e = roundBitWord (textValue t -ℤ pos (readRound t)) (readRound t) (format (length t) e)
 
-unfoldable pub readAnswer : Outcome → RoundBitWord → ReadAnswer
-readAnswer Done w = record { outcome = Done; word = w }
-readAnswer (Refused c) w = record { outcome = Refused c; word = roundBitRefused c .word }
+abbrev pub readAnswer : RoundBitAnswer → ReadAnswer  -- the answer of a reading has what any answer has
+readAnswer a = record { outcome = a .outcome; word = a .word }
 
 unfoldable pub readOf : List ℕ → ℤ → ReadAnswer
-readOf t e = readAnswer (readCheck t e) (readWord t e)
+readOf t e = readAnswer (readCheck t e andThen roundBitDone (readWord t e))

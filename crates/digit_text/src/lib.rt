@@ -20,6 +20,7 @@ use words::Cause;
 use words::Format;
 use words::Outcome;
 use words::RoundBit;
+use words::RoundBitAnswer;
 use words::RoundBitWord;
 use words::WriteAnswer;
 
@@ -190,22 +191,14 @@ fn read_word(text: &[u8], unit: i32) -> RoundBitWord
     }
 }
 
-fn read_answer(o: Outcome, w: RoundBitWord) -> ReadAnswer
-    ensures { λ r. ⌜ r ≡ readAnswer o w ⌝ }
+fn read_answer(a: RoundBitAnswer) -> ReadAnswer
+    ensures { λ r. ⌜ r ≡ readAnswer a ⌝ }
 {
-    match o {
-        Outcome::Refused(c) => {
-            let a = words::round_bit_refused(c);
-            let blank = a.word;
-            ReadAnswer {
-                outcome: Outcome::Refused(c),
-                word: blank,
-            }
-        }
-        Outcome::Done => ReadAnswer {
-            outcome: Outcome::Done,
-            word: w,
-        },
+    let o = a.outcome;
+    let w = a.word;
+    ReadAnswer {
+        outcome: o,
+        word: w,
     }
 }
 
@@ -214,11 +207,7 @@ pub fn read(text: &[u8], unit: i32) -> ReadAnswer
     ensures { λ r. ⌜ r ≡ readOf (now (text .entry)) unit ⌝ }
 {
     match read_check(text, unit) {
-        Outcome::Refused(c) => {
-            let a = words::round_bit_refused(c);
-            let blank = a.word;
-            read_answer(Outcome::Refused(c), blank)
-        }
-        Outcome::Done => read_answer(Outcome::Done, read_word(text, unit)),
+        Outcome::Refused(c) => read_answer(words::round_bit_refused(c)),
+        Outcome::Done => read_answer(words::round_bit_done(read_word(text, unit))),
     }
 }

@@ -6,8 +6,7 @@ use Rattle.block_file.specs.declared.ReadAnswer.{ReadAnswer}
 use Rattle.frostuldi.specs.declared.{FrostPlain.FrostPlain, FrostHalfUnit.FrostHalfUnit, FrostRoundBit.FrostRoundBit, FrostPlainAnswer.FrostPlainAnswer, FrostHalfUnitAnswer.FrostHalfUnitAnswer, FrostRoundBitAnswer.FrostRoundBitAnswer}
 use Rattle.frostuldi.specs.declared.{FrostRunningSum.FrostRunningSum, FrostSumAnswer.FrostSumAnswer, FrostFileHead.FrostFileHead, FrostWritten.FrostWritten}
 
--- what comes in
-abbrev pub plainIn : FrostPlain → PlainWord
+abbrev pub plainIn : FrostPlain → PlainWord  -- what comes in
 plainIn w = plainWord (w .number) (format (w .width) (w .unit))
 
 abbrev pub halfUnitIn : FrostHalfUnit → HalfUnitWord
@@ -19,8 +18,7 @@ roundBitIn w = roundBitWord (w .number) (w .round) (format (w .width) (w .unit))
 abbrev pub sumIn : FrostRunningSum → RunningSum
 sumIn s = record { kept = roundBitIn (s .kept); depth = s .depth }
 
--- what goes out
-abbrev pub flatPlain : PlainWord → FrostPlain
+abbrev pub flatPlain : PlainWord → FrostPlain  -- what goes out
 flatPlain w = record { number = w .number .0; width = w .format .width; unit = w .format .unit }
 
 abbrev pub flatHalfUnit : HalfUnitWord → FrostHalfUnit

@@ -3,23 +3,19 @@ use Rattle.integers.specs.Names.{ℕ, turned, floorBy}
 use Rattle.words.specs.{declared.{Outcome.Outcome, HalfUnitWord.HalfUnitWord, HalfUnitAnswer.HalfUnitAnswer}, Refusals._orElse_, Formats.{narrower, narrowerCheck}, HalfUnit.{halfUnitWord, halfUnitCheck, halfUnitDone, _andThen_}}
 use Rattle.half_unit.specs.declared.CutAnswer.{CutAnswer}
 
--- "Sign change: -1-w."
-unfoldable pub signChangeWord : HalfUnitWord → HalfUnitWord
+unfoldable pub signChangeWord : HalfUnitWord → HalfUnitWord  -- "Sign change: -1-w."
 signChangeWord w = halfUnitWord (turned (w .number .0)) (w .format)
 
 abbrev pub signChangeOf : HalfUnitWord → HalfUnitAnswer
 signChangeOf w = halfUnitCheck w andThen halfUnitDone (signChangeWord w)
 
--- "Cut by d: floor(w / 2^d), width n-d, unit e+d"
-unfoldable pub cutWord : HalfUnitWord → ℕ → HalfUnitWord
+unfoldable pub cutWord : HalfUnitWord → ℕ → HalfUnitWord  -- "Cut by d: floor(w / 2^d), width n-d, unit e+d"
 cutWord w d = halfUnitWord (floorBy (w .number .0) d) (narrower (w .format) d)
 
--- 1, 2, 3, then 5, then 7
-abbrev pub cutCheck : HalfUnitWord → ℕ → Outcome
+abbrev pub cutCheck : HalfUnitWord → ℕ → Outcome  -- 1, 2, 3, then 5, then 7
 cutCheck w d = halfUnitCheck w orElse narrowerCheck (w .format) d
 
--- the answer of a cut has what any answer has
-abbrev pub cutAnswer : HalfUnitAnswer → CutAnswer
+abbrev pub cutAnswer : HalfUnitAnswer → CutAnswer  -- the answer of a cut has what any answer has
 cutAnswer a = record { outcome = a .outcome; word = a .word }
 
 abbrev pub cutOf : HalfUnitWord → ℕ → CutAnswer

@@ -2,19 +2,16 @@
 use Rattle.integers.specs.Names.{_+_, ℤ, pos, _+ℤ_, _-ℤ_, _*ℤ_, floorBy}
 use Rattle.words.specs.{declared.{Outcome.Outcome, Format.Format, HalfUnitWord.HalfUnitWord, HalfUnitAnswer.HalfUnitAnswer}, Refusals._orElse_, Formats.{format, unitsMultiplied, answerCheck}, HalfUnit.{halfUnitWord, halfUnitCheck, halfUnitDone, _andThen_}}
 
--- "((2x+1)(2y+1) - 1) / 2": both factors are odd, so nothing is left over
-unfoldable pub multiplied : ℤ → ℤ → ℤ
+unfoldable pub multiplied : ℤ → ℤ → ℤ  -- "((2x+1)(2y+1) - 1) / 2": both factors are odd, so nothing is left over
 multiplied x y = floorBy ((((pos 2 *ℤ x) +ℤ pos 1) *ℤ ((pos 2 *ℤ y) +ℤ pos 1)) -ℤ pos 1) 1
 
--- "width n+m, unit exponent the two added, less 1"
-abbrev pub productFormat : Format → Format → Format
+abbrev pub productFormat : Format → Format → Format  -- "width n+m, unit exponent the two added, less 1"
 productFormat f g = format (f .width + g .width) (unitsMultiplied f g -ℤ pos 1)
 
 unfoldable pub productWord : HalfUnitWord → HalfUnitWord → HalfUnitWord
 productWord x y = halfUnitWord (multiplied (x .number .0) (y .number .0)) (productFormat (x .format) (y .format))
 
--- 1, 2, 3 of the first, 1, 2, 3 of the second, then 6, then 7
-abbrev pub productCheck : HalfUnitWord → HalfUnitWord → Outcome
+abbrev pub productCheck : HalfUnitWord → HalfUnitWord → Outcome  -- 1, 2, 3 of the first, 1, 2, 3 of the second, then 6, then 7
 productCheck x y = halfUnitCheck x orElse halfUnitCheck y orElse answerCheck (productFormat (x .format) (y .format))
 
 abbrev pub productOf : HalfUnitWord → HalfUnitWord → HalfUnitAnswer

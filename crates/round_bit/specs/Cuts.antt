@@ -3,8 +3,7 @@ use Rattle.integers.specs.Names.{ℕ, zero, suc, _-_, _*_, _^_, bitAnd, bitOr, 
 use Rattle.words.specs.{declared.{Outcome.Outcome, RoundBit.RoundBit, RoundBitWord.RoundBitWord, RoundBitAnswer.RoundBitAnswer}, Refusals._orElse_, Formats.{narrower, narrowerCheck, wider, answerCheck}, RoundBit.{roundBitWord, roundBitCheck, roundBitDone, _andThen_}}
 use Rattle.round_bit.specs.declared.{CutAnswer.CutAnswer, EvenCutAnswer.EvenCutAnswer}
 
--- "Sign change: (-1-a, 1-r)."
-abbrev pub signChanged : RoundBit → RoundBit
+abbrev pub signChanged : RoundBit → RoundBit  -- "Sign change: (-1-a, 1-r)."
 signChanged n = record { 0 = turned (n .0); 1 = 1 - n .1 }
 
 unfoldable pub signChangeWord : RoundBitWord → RoundBitWord
@@ -13,17 +12,14 @@ signChangeWord w = record { number = signChanged (w .number); format = w .format
 abbrev pub signChangeOf : RoundBitWord → RoundBitAnswer
 signChangeOf w = roundBitCheck w andThen roundBitDone (signChangeWord w)
 
--- "Cut by d: d = 0 returns the word. For d >= 1 the answer is (floor(a / 2^d), digit d-1 of a), width n-d, unit e+d. The old round bit is dropped."
-unfoldable pub cutWord : RoundBitWord → ℕ → RoundBitWord
+unfoldable pub cutWord : RoundBitWord → ℕ → RoundBitWord  -- "Cut by d: d = 0 returns the word. For d >= 1 the answer is (floor(a / 2^d), digit d-1 of a), width n-d, unit e+d. The old round bit is dropped."
 cutWord w zero = w
 cutWord w (suc k) = roundBitWord (floorBy (w .number .0) (suc k)) (digit (w .number .0) k) (narrower (w .format) (suc k))
 
--- 1, 2, 3, then 5, then 7
-abbrev pub cutCheck : RoundBitWord → ℕ → Outcome
+abbrev pub cutCheck : RoundBitWord → ℕ → Outcome  -- 1, 2, 3, then 5, then 7
 cutCheck w d = roundBitCheck w orElse narrowerCheck (w .format) d
 
--- the answer of a cut, and of an even cut, has what any answer has
-abbrev pub cutAnswer : RoundBitAnswer → CutAnswer
+abbrev pub cutAnswer : RoundBitAnswer → CutAnswer  -- the answer of a cut, and of an even cut, has what any answer has
 cutAnswer a = record { outcome = a .outcome; word = a .word }
 
 abbrev pub cutOf : RoundBitWord → ℕ → CutAnswer
@@ -38,12 +34,10 @@ restWord w (suc k) = roundBitWord (lowDigits (w .number .0) (suc k)) (w .number 
 abbrev pub restOf : RoundBitWord → ℕ → RoundBitAnswer
 restOf w d = cutCheck w d andThen roundBitDone (restWord w d)
 
--- "the new round bit is (T or b) and h, where h is digit d-1 of a, b is digit d, and T is 1 if any digit below d-1 is 1", for d = k + 1
-unfoldable pub evenRoundBit : ℤ → ℕ → ℕ
+unfoldable pub evenRoundBit : ℤ → ℕ → ℕ  -- "the new round bit is (T or b) and h, where h is digit d-1 of a, b is digit d, and T is 1 if any digit below d-1 is 1", for d = k + 1
 evenRoundBit a k = bitAnd (bitOr (anyBelow a k) (digit a (suc k))) (digit a k)
 
--- "Even cut by d: as the cut, except that for d >= 1" the new round bit is that
-unfoldable pub evenCutWord : RoundBitWord → ℕ → RoundBitWord
+unfoldable pub evenCutWord : RoundBitWord → ℕ → RoundBitWord  -- "Even cut by d: as the cut, except that for d >= 1" the new round bit is that
 evenCutWord w zero = w
 evenCutWord w (suc k) = roundBitWord (floorBy (w .number .0) (suc k)) (evenRoundBit (w .number .0) k) (narrower (w .format) (suc k))
 
@@ -53,13 +47,11 @@ evenCutAnswer a = record { outcome = a .outcome; word = a .word }
 abbrev pub evenCutOf : RoundBitWord → ℕ → EvenCutAnswer
 evenCutOf w d = evenCutAnswer (cutCheck w d andThen roundBitDone (evenCutWord w d))
 
--- "Widen on the right by d: (a * 2^d + r * (2^d - 1), r), width n+d, unit e-d."
-unfoldable pub widenWord : RoundBitWord → ℕ → RoundBitWord
+unfoldable pub widenWord : RoundBitWord → ℕ → RoundBitWord  -- "Widen on the right by d: (a * 2^d + r * (2^d - 1), r), width n+d, unit e-d."
 widenWord w d =
     roundBitWord ((w .number .0 *ℤ pos (2 ^ d)) +ℤ pos (w .number .1 * (2 ^ d - 1))) (w .number .1) (wider (w .format) d)
 
--- 1, 2, 3, then 6, then 7
-abbrev pub widenCheck : RoundBitWord → ℕ → Outcome
+abbrev pub widenCheck : RoundBitWord → ℕ → Outcome  -- 1, 2, 3, then 6, then 7
 widenCheck w d = roundBitCheck w orElse answerCheck (wider (w .format) d)
 
 abbrev pub widenOf : RoundBitWord → ℕ → RoundBitAnswer

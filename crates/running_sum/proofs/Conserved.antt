@@ -16,7 +16,7 @@ use Rattle.words.specs.declared.RoundBitAnswer.{RoundBitAnswer}
 use Rattle.words.proofs.Laws.{refused-not-done, both-passed, three-passed, passed, round-bit-right, round-bit-passes}
 use Rattle.words.proofs.Operands.{same-format}
 use Rattle.words.proofs.Rights.{nothing-right}
-use Rattle.round_bit.specs.Cuts.{cutAnswer, cutOf, restOf}
+use Rattle.round_bit.specs.Cuts.{cutOf, restOf}
 use Rattle.round_bit.specs.Sums.{sumOf}
 use Rattle.round_bit.proofs.Laws.Cuts.{cut-done, cut-format, rest-format, rest-done, rest-closed, rest-refuses, rest-value, rest-small}
 use Rattle.round_bit.proofs.Laws.Sums.{sum-format, sum-done, sum-closed, sum-value}
@@ -80,7 +80,6 @@ put-tells s w e =
     (p .1, same-format (s .kept .format) (w .format) (passed Mismatch _ (t .0)))
 
 pub sum-tells : (s : RunningSum) → sumCheck s ≡ Done → cutOf (s .kept) (s .depth) .outcome ≡ Done
-unfolding cutAnswer
 sum-tells s e =
     let p = both-passed (roundBitCheck (s .kept)) (depthCheck (s .kept .format) (s .depth)) e in
     rw (p .0, depth-passed (s .kept .format) (s .depth) (p .1))

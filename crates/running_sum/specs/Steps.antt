@@ -4,26 +4,22 @@ use Rattle.words.specs.{declared.{Outcome.{Outcome, the-variants.{Done, Refused
 use Rattle.round_bit.specs.{Cuts.{cutOf, restOf}, Sums.sumOf}
 use Rattle.running_sum.specs.declared.{RunningSum.RunningSum, OpenAnswer.OpenAnswer, PutAnswer.PutAnswer, HandOutAnswer.HandOutAnswer, EmptyAnswer.EmptyAnswer}
 
--- the blank word, and (0,0) in a format
-abbrev pub blank : RoundBitWord
+abbrev pub blank : RoundBitWord  -- the blank word, and (0,0) in a format
 blank = roundBitWord (pos 0) 0 blankFormat
 
 abbrev pub nothing : Format → RoundBitWord
 nothing f = roundBitWord (pos 0) 0 f
 
--- 5: "a running sum has, or is opened with, a depth of 0 or more than its width less 2"; then 7, of the coarse unit
-abbrev pub badDepth : ℕ → ℕ → Bool
+abbrev pub badDepth : ℕ → ℕ → Bool  -- 5: "a running sum has, or is opened with, a depth of 0 or more than its width less 2"; then 7, of the coarse unit
 badDepth n d = eqb d 0 || ltb (n - 2) d
 
 unfoldable pub depthCheck : Format → ℕ → Outcome
 depthCheck f d = refuse 5 (badDepth (f .width) d) orElse refuse 7 (badUnit (f .unit +ℤ pos d))
 
--- "Opened with a width N, unit e and depth d": 1, 2, 5 and 7
-abbrev pub openCheck : Format → ℕ → Outcome
+abbrev pub openCheck : Format → ℕ → Outcome  -- "Opened with a width N, unit e and depth d": 1, 2, 5 and 7
 openCheck f d = formatCheck f orElse depthCheck f d
 
--- "it keeps a round-bit word of width N and unit e, at first (0,0)". Refused, "it then gives a sum that keeps the blank word at depth 0"
-unfoldable pub openAnswer : Outcome → Format → ℕ → OpenAnswer
+unfoldable pub openAnswer : Outcome → Format → ℕ → OpenAnswer  -- "it keeps a round-bit word of width N and unit e, at first (0,0)". Refused, "it then gives a sum that keeps the blank word at depth 0"
 openAnswer Done f d = record { outcome = Done; sum = record { kept = nothing f; depth = d } }
 openAnswer (Refused c) f d = record { outcome = Refused c; sum = record { kept = blank; depth = 0 } }
 
@@ -35,27 +31,22 @@ pub data Call : Type 0 where
   put : RoundBitWord → Call
   handOut empty : Call
 
--- what a call answers, and the sum that it leaves; the blank word where it hands back none
-pub record Step : Type 0 where
+pub record Step : Type 0 where  -- what a call answers, and the sum that it leaves; the blank word where it hands back none
   pub outcome : Outcome
   pub word : RoundBitWord
   pub sum : RunningSum
 
--- the same sum with another word kept
-abbrev pub keeping : RunningSum → RoundBitWord → RunningSum
+abbrev pub keeping : RunningSum → RoundBitWord → RunningSum  -- the same sum with another word kept
 keeping s w = record { kept = w; depth = s .depth }
 
--- done, with a word and the new sum; or a refusal, with the blank word and the sum as it was
-unfoldable pub stepped : Outcome → RoundBitWord → RunningSum → RunningSum → Step
+unfoldable pub stepped : Outcome → RoundBitWord → RunningSum → RunningSum → Step  -- done, with a word and the new sum; or a refusal, with the blank word and the sum as it was
 stepped Done w new old = record { outcome = Done; word = w; sum = new }
 stepped (Refused c) w new old = record { outcome = Refused c; word = blank; sum = old }
 
--- the sum "is the first operand, refused by 1, 2, 3 for its kept word and by 5 and 7 for its depth"
-abbrev pub sumCheck : RunningSum → Outcome
+abbrev pub sumCheck : RunningSum → Outcome  -- the sum "is the first operand, refused by 1, 2, 3 for its kept word and by 5 and 7 for its depth"
 sumCheck s = roundBitCheck (s .kept) orElse depthCheck (s .kept .format) (s .depth)
 
--- "Put may also refuse 1, 2, 3 of the word, 4 and 8": after the sum's 1, 2, 3 those of the word, then the lowest of 4, 5, 7 and 8
-unfoldable pub putCheck : RunningSum → RoundBitWord → Outcome
+unfoldable pub putCheck : RunningSum → RoundBitWord → Outcome  -- "Put may also refuse 1, 2, 3 of the word, 4 and 8": after the sum's 1, 2, 3 those of the word, then the lowest of 4, 5, 7 and 8
 putCheck s w =
     roundBitCheck (s .kept) orElse roundBitCheck w orElse refuse 4 (differ (s .kept .format) (w .format))
     orElse depthCheck (s .kept .format) (s .depth)
@@ -68,8 +59,7 @@ stepOf s (put w) = let a = sumOf (s .kept) w in stepped (putCheck s w orElse a .
 stepOf s handOut = stepped (sumCheck s) (cutOf (s .kept) (s .depth) .word) (keeping s (restOf (s .kept) (s .depth) .word)) s
 stepOf s empty = stepped (sumCheck s) (s .kept) (keeping s (nothing (s .kept .format))) s
 
--- the three methods' answers
-abbrev pub putAnswer : Step → PutAnswer
+abbrev pub putAnswer : Step → PutAnswer  -- the three methods' answers
 putAnswer t = record { outcome = t .outcome; sum = t .sum }
 
 abbrev pub handOutAnswer : Step → HandOutAnswer

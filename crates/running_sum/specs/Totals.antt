@@ -3,8 +3,7 @@ use Rattle.integers.specs.Names.{ℕ, _^_, List, [], _∷_, ℤ, pos, negsuc, _
 use Rattle.words.specs.{declared.{Outcome.{Outcome, the-variants.{Done, Refused}}, RoundBitWord.RoundBitWord}, RoundBit.roundBitValue}
 use Rattle.running_sum.specs.Steps.{Call, put, handOut, empty}
 
--- a call and what it answered
-pub record Answered : Type 0 where
+pub record Answered : Type 0 where  -- a call and what it answered
   pub call : Call
   pub outcome : Outcome
   pub word : RoundBitWord
@@ -15,12 +14,10 @@ abbrev pub coarser : ℤ → ℕ
 coarser (pos d) = 2 ^ d
 coarser (negsuc d) = 1
 
--- a word in its own unit, as half units of 2 ^ e
-unfoldable pub amount : ℤ → RoundBitWord → ℤ
+unfoldable pub amount : ℤ → RoundBitWord → ℤ  -- a word in its own unit, as half units of 2 ^ e
 amount e w = roundBitValue w *ℤ pos (coarser (w .format .unit -ℤ e))
 
--- what a call and its answer add to the words accepted, and to the words handed out; only done answers count
-unfoldable pub takenIn : ℤ → Call → Outcome → ℤ
+unfoldable pub takenIn : ℤ → Call → Outcome → ℤ  -- what a call and its answer add to the words accepted, and to the words handed out; only done answers count
 takenIn e (put w) Done = amount e w
 takenIn e (put w) (Refused c) = pos 0
 takenIn e handOut o = pos 0

@@ -5,27 +5,21 @@ use Rattle.words.specs.{declared.{Outcome.{Outcome, the-variants.{Done, 
 abbrev pub format : ℕ → ℤ → Format
 format n e = record { width = n; unit = e }
 
--- "width n-d, unit e+d", of a cut and of a conversion with a depth
-abbrev pub narrower : Format → ℕ → Format
+abbrev pub narrower : Format → ℕ → Format  -- "width n-d, unit e+d", of a cut and of a conversion with a depth
 narrower f d = format (f .width - d) (f .unit +ℤ pos d)
 
--- 5: it "would leave fewer than 2 digits"; then 7
-unfoldable pub narrowerCheck : Format → ℕ → Outcome
+unfoldable pub narrowerCheck : Format → ℕ → Outcome  -- 5: it "would leave fewer than 2 digits"; then 7
 narrowerCheck f d = refuse 5 (ltb (f .width - d) 2) orElse refuse 7 (badUnit (f .unit +ℤ pos d))
 
--- "width n+d, unit e-d"
-abbrev pub wider : Format → ℕ → Format
+abbrev pub wider : Format → ℕ → Format  -- "width n+d, unit e-d"
 wider f d = format (f .width + d) (f .unit -ℤ pos d)
 
--- "units multiplied": "unit exponent the two added", of a product
-abbrev pub unitsMultiplied : Format → Format → ℤ
+abbrev pub unitsMultiplied : Format → Format → ℤ  -- "units multiplied": "unit exponent the two added", of a product
 unitsMultiplied f g = f .unit +ℤ g .unit
 
--- 6: "the answer's width would pass 63"; then 7: "the answer's unit exponent would leave -127 to 127"
-unfoldable pub answerCheck : Format → Outcome
+unfoldable pub answerCheck : Format → Outcome  -- 6: "the answer's width would pass 63"; then 7: "the answer's unit exponent would leave -127 to 127"
 answerCheck f = refuse 6 (ltb 63 (f .width)) orElse refuse 7 (badUnit (f .unit))
 
--- the format, or a refusal with the blank one
-unfoldable pub formatAnswer : Outcome → Format → FormatAnswer
+unfoldable pub formatAnswer : Outcome → Format → FormatAnswer  -- the format, or a refusal with the blank one
 formatAnswer Done f = record { outcome = Done; format = f }
 formatAnswer (Refused c) f = record { outcome = Refused c; format = blankFormat }

@@ -5,16 +5,13 @@ use Rattle.words.specs.{declared.{Cause.Cause, Outcome.{Outcome, the-var
 abbrev pub halfUnitWord : ℤ → Format → HalfUnitWord
 halfUnitWord w f = record { number = record { 0 = w }; format = f }
 
--- the value, in half units
-abbrev pub halfUnitValue : HalfUnitWord → ℤ
+abbrev pub halfUnitValue : HalfUnitWord → ℤ  -- the value, in half units
 halfUnitValue w = value halfUnit (w .number .0) 0
 
--- the first of the causes 1, 2, 3
-unfoldable pub halfUnitCheck : HalfUnitWord → Outcome
+unfoldable pub halfUnitCheck : HalfUnitWord → Outcome  -- the first of the causes 1, 2, 3
 halfUnitCheck w = wordCheck (w .format) (w .number .0) 0
 
--- the answer of a refusal: the blank word
-abbrev pub halfUnitRefused : Cause → HalfUnitAnswer
+abbrev pub halfUnitRefused : Cause → HalfUnitAnswer  -- the answer of a refusal: the blank word
 halfUnitRefused c = record { outcome = Refused c; word = halfUnitWord (pos 0) blankFormat }
 
 abbrev pub halfUnitDone : HalfUnitWord → HalfUnitAnswer
@@ -25,6 +22,5 @@ infixr 3 _andThen_
 abbrev pub _andThen_ : Outcome → HalfUnitAnswer → HalfUnitAnswer
 o andThen a = after halfUnitRefused o a
 
--- 8 if the number does not fit its width, and else the word
-unfoldable pub halfUnitFitted : HalfUnitWord → HalfUnitAnswer
+unfoldable pub halfUnitFitted : HalfUnitWord → HalfUnitAnswer  -- 8 if the number does not fit its width, and else the word
 halfUnitFitted w = refuse 8 (outside (w .format) (w .number .0)) andThen halfUnitDone w

@@ -5,16 +5,13 @@ use Rattle.words.specs.{declared.{Cause.Cause, Outcome.{Outcome, the-var
 abbrev pub plainWord : ℤ → Format → PlainWord
 plainWord x f = record { number = record { 0 = x }; format = f }
 
--- the value, in half units
-abbrev pub plainValue : PlainWord → ℤ
+abbrev pub plainValue : PlainWord → ℤ  -- the value, in half units
 plainValue w = value plain (w .number .0) 0
 
--- the first of the causes 1, 2, 3
-unfoldable pub plainCheck : PlainWord → Outcome
+unfoldable pub plainCheck : PlainWord → Outcome  -- the first of the causes 1, 2, 3
 plainCheck w = wordCheck (w .format) (w .number .0) 0
 
--- the answer of a refusal: the blank word
-abbrev pub plainRefused : Cause → PlainAnswer
+abbrev pub plainRefused : Cause → PlainAnswer  -- the answer of a refusal: the blank word
 plainRefused c = record { outcome = Refused c; word = plainWord (pos 0) blankFormat }
 
 abbrev pub plainDone : PlainWord → PlainAnswer
@@ -25,6 +22,5 @@ infixr 3 _andThen_
 abbrev pub _andThen_ : Outcome → PlainAnswer → PlainAnswer
 o andThen a = after plainRefused o a
 
--- 8 if the number does not fit its width, and else the word
-unfoldable pub plainFitted : PlainWord → PlainAnswer
+unfoldable pub plainFitted : PlainWord → PlainAnswer  -- 8 if the number does not fit its width, and else the word
 plainFitted w = refuse 8 (outside (w .format) (w .number .0)) andThen plainDone w

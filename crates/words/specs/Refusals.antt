@@ -2,40 +2,25 @@
 use Rattle.integers.specs.Names.{ℕ, _-_, Bool, true, false, not, _&&_, _||_, List, [], _∷_, T, leb, eqb, ℤ, pos, getD, length, eqZ}
 use Rattle.words.specs.{declared.{Cause.{Cause, the-variants.{Width, Unit, Number, Mismatch, Depth, WidthPast, UnitPast, NumberPast, DigitText, Buffer, Mark, Form}}, Outcome.{Outcome, the-variants.{Done, Refused}}, Format.Format}, Words.{badWidth, badUnit, outside, badRoundBit}}
 
--- the table's number of each cause
-abbrev pub causeNumber : Cause → ℕ
--- "a width is outside 2 to 63 (2 to 32 in a file)"
-causeNumber Width = 1
--- "a unit exponent is outside -127 to 127"
-causeNumber Unit = 2
--- "a number is outside its width, or a round bit is not 0 or 1, or a round byte in a block of kind 0 or 2 is not 0"
-causeNumber Number = 3
--- "a sum's operands, or a word and its running sum, differ in width or unit"
-causeNumber Mismatch = 4
--- "a cut, or a conversion with a depth, would leave fewer than 2 digits; or a running sum has, or is opened with, a depth of 0 or more than its width less 2"
-causeNumber Depth = 5
--- "the answer's width would pass 63"
-causeNumber WidthPast = 6
--- "the answer's unit exponent would leave -127 to 127"
-causeNumber UnitPast = 7
--- "the answer's number does not fit its width"
-causeNumber NumberPast = 8
--- "a digit text has a byte that is not `+`, `0` or `-`, or two nonzero digits of one sign with nothing or only zeros between them"
-causeNumber DigitText = 9
--- "a lent buffer is too short for what would be written"
-causeNumber Buffer = 10
--- "a file's mark or version is wrong"
-causeNumber Mark = 11
--- "a file's length, kind or count is wrong"
-causeNumber Form = 12
+abbrev pub causeNumber : Cause → ℕ  -- the table's number of each cause
+causeNumber Width = 1  -- "a width is outside 2 to 63 (2 to 32 in a file)"
+causeNumber Unit = 2  -- "a unit exponent is outside -127 to 127"
+causeNumber Number = 3  -- "a number is outside its width, or a round bit is not 0 or 1, or a round byte in a block of kind 0 or 2 is not 0"
+causeNumber Mismatch = 4  -- "a sum's operands, or a word and its running sum, differ in width or unit"
+causeNumber Depth = 5  -- "a cut, or a conversion with a depth, would leave fewer than 2 digits; or a running sum has, or is opened with, a depth of 0 or more than its width less 2"
+causeNumber WidthPast = 6  -- "the answer's width would pass 63"
+causeNumber UnitPast = 7  -- "the answer's unit exponent would leave -127 to 127"
+causeNumber NumberPast = 8  -- "the answer's number does not fit its width"
+causeNumber DigitText = 9  -- "a digit text has a byte that is not `+`, `0` or `-`, or two nonzero digits of one sign with nothing or only zeros between them"
+causeNumber Buffer = 10  -- "a lent buffer is too short for what would be written"
+causeNumber Mark = 11  -- "a file's mark or version is wrong"
+causeNumber Form = 12  -- "a file's length, kind or count is wrong"
 
--- "Done is 0."
-abbrev pub numberOf : Outcome → ℕ
+abbrev pub numberOf : Outcome → ℕ  -- "Done is 0."
 numberOf Done = 0
 numberOf (Refused c) = causeNumber c
 
--- the table's rows from the top; `inTable n` says that one of them has the number n, and `cause n` is its cause
-abbrev pub causes : List Cause
+abbrev pub causes : List Cause  -- the table's rows from the top; `inTable n` says that one of them has the number n, and `cause n` is its cause
 causes =
     Width ∷ Unit ∷ Number ∷ Mismatch ∷ Depth ∷ WidthPast ∷ UnitPast ∷ NumberPast ∷ DigitText ∷ Buffer ∷ Mark ∷ Form ∷ []
 
@@ -45,13 +30,11 @@ inTable n = leb 1 n && leb n (length causes)
 abbrev pub cause : (n : ℕ) → T (inTable n) → Cause
 cause n t = getD causes (n - 1) Width
 
--- a cause, given exactly when its test holds
-abbrev pub refuseFor : Cause → Bool → Outcome
+abbrev pub refuseFor : Cause → Bool → Outcome  -- a cause, given exactly when its test holds
 refuseFor c true = Refused c
 refuseFor c false = Done
 
--- `refuse n test`: the refusal that the table numbers n. For a number that the table lacks there is none, and `refuse 13 test` has no type
-abbrev pub Refuse : Bool → Type 0
+abbrev pub Refuse : Bool → Type 0  -- `refuse n test`: the refusal that the table numbers n. For a number that the table lacks there is none, and `refuse 13 test` has no type
 Refuse true = Bool → Outcome
 Refuse false = record {}
 
@@ -68,19 +51,16 @@ abbrev pub _orElse_ : Outcome → Outcome → Outcome
 Done orElse o = o
 Refused c orElse o = Refused c
 
--- 1 and 2 of a width and a unit, then 3 of a number and a round bit in them; done where there is none
-unfoldable pub formatCheck : Format → Outcome
+unfoldable pub formatCheck : Format → Outcome  -- 1 and 2 of a width and a unit, then 3 of a number and a round bit in them; done where there is none
 formatCheck f = refuse 1 (badWidth (f .width)) orElse refuse 2 (badUnit (f .unit))
 
 unfoldable pub wordCheck : Format → ℤ → ℕ → Outcome
 wordCheck f x r = formatCheck f orElse refuse 3 (outside f x || badRoundBit r)
 
--- 4 is for operands, or a word and its running sum, that "differ in width or unit"
-abbrev pub differ : Format → Format → Bool
+abbrev pub differ : Format → Format → Bool  -- 4 is for operands, or a word and its running sum, that "differ in width or unit"
 differ f g = not (eqb (f .width) (g .width) && eqZ (f .unit) (g .unit))
 
--- "A refusal returns the blank word (number 0, round bit 0, width 2, unit 0)": its format, and the choice between that answer and another
-abbrev pub blankFormat : Format
+abbrev pub blankFormat : Format  -- "A refusal returns the blank word (number 0, round bit 0, width 2, unit 0)": its format, and the choice between that answer and another
 blankFormat = record { width = 2; unit = pos 0 }
 
 abbrev pub after : {A : Type 0} → (Cause → A) → Outcome → A → A

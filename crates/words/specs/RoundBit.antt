@@ -5,16 +5,13 @@ use Rattle.words.specs.{declared.{Cause.Cause, Outcome.{Outcome, the-var
 abbrev pub roundBitWord : ℤ → ℕ → Format → RoundBitWord
 roundBitWord a r f = record { number = record { 0 = a; 1 = r }; format = f }
 
--- the value, in half units
-abbrev pub roundBitValue : RoundBitWord → ℤ
+abbrev pub roundBitValue : RoundBitWord → ℤ  -- the value, in half units
 roundBitValue w = value roundBit (w .number .0) (w .number .1)
 
--- the first of the causes 1, 2, 3
-unfoldable pub roundBitCheck : RoundBitWord → Outcome
+unfoldable pub roundBitCheck : RoundBitWord → Outcome  -- the first of the causes 1, 2, 3
 roundBitCheck w = wordCheck (w .format) (w .number .0) (w .number .1)
 
--- the answer of a refusal: the blank word
-abbrev pub roundBitRefused : Cause → RoundBitAnswer
+abbrev pub roundBitRefused : Cause → RoundBitAnswer  -- the answer of a refusal: the blank word
 roundBitRefused c = record { outcome = Refused c; word = roundBitWord (pos 0) 0 blankFormat }
 
 abbrev pub roundBitDone : RoundBitWord → RoundBitAnswer
@@ -25,6 +22,5 @@ infixr 3 _andThen_
 abbrev pub _andThen_ : Outcome → RoundBitAnswer → RoundBitAnswer
 o andThen a = after roundBitRefused o a
 
--- 8 if the number does not fit its width, and else the word
-unfoldable pub roundBitFitted : RoundBitWord → RoundBitAnswer
+unfoldable pub roundBitFitted : RoundBitWord → RoundBitAnswer  -- 8 if the number does not fit its width, and else the word
 roundBitFitted w = refuse 8 (outside (w .format) (w .number .0)) andThen roundBitDone w

@@ -2,24 +2,19 @@
 use Rattle.integers.specs.Names.{ℕ, Bool, not, _&&_, leb, ℤ, pos, negℤ, _+ℤ_, _*ℤ_, lies, fitsWidth}
 use Rattle.words.specs.declared.Format.{Format}
 
--- "Three kinds of word."
-pub data Kind : Type 0 where
+pub data Kind : Type 0 where  -- "Three kinds of word."
   plain roundBit halfUnit : Kind
 
--- not: "Each has a width n, 2 to 63 digits,"
-abbrev pub badWidth : ℕ → Bool
+abbrev pub badWidth : ℕ → Bool  -- not: "Each has a width n, 2 to 63 digits,"
 badWidth n = not (leb 2 n && leb n 63)
 
--- not: "and a unit 2^e with e from -127 to 127." A format's unit is the exponent e
-abbrev pub badUnit : ℤ → Bool
+abbrev pub badUnit : ℤ → Bool  -- not: "and a unit 2^e with e from -127 to 127." A format's unit is the exponent e
 badUnit e = not (lies (negℤ (pos 127)) (pos 127) e)
 
--- not: "The number in it lies from -2^(n-1) to 2^(n-1)-1."
-abbrev pub outside : Format → ℤ → Bool
+abbrev pub outside : Format → ℤ → Bool  -- not: "The number in it lies from -2^(n-1) to 2^(n-1)-1."
 outside f x = not (fitsWidth x (f .width))
 
--- not: "r 0 or 1"
-abbrev pub badRoundBit : ℕ → Bool
+abbrev pub badRoundBit : ℕ → Bool  -- not: "r 0 or 1"
 badRoundBit r = not (leb r 1)
 
 -- The values, counted in halves of the word's own unit: "value x units", "value a + r units", "value w + 1/2 units".

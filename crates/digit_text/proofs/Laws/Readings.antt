@@ -13,14 +13,14 @@ use Rattle.integers.proofs.Digits.{digit-minus-one}
 use Rattle.words.specs.Words.{badWidth, badUnit}
 use Rattle.words.specs.Refusals.{refuseFor, formatCheck}
 use Rattle.words.specs.Formats.{format}
-use Rattle.words.specs.RoundBit.{roundBitWord, roundBitCheck}
+use Rattle.words.specs.RoundBit.{roundBitWord, roundBitCheck, roundBitDone}
 use Rattle.words.specs.declared.Cause.the-variants.{Width, Unit}
-use Rattle.words.specs.declared.Outcome.{Outcome}
-use Rattle.words.specs.declared.Outcome.the-variants.{Done, Refused}
+use Rattle.words.specs.declared.Outcome.the-variants.{Done}
 use Rattle.words.specs.declared.Format.{Format}
 use Rattle.words.specs.declared.RoundBit.{RoundBit}
 use Rattle.words.specs.declared.RoundBitWord.{RoundBitWord}
-use Rattle.words.proofs.Laws.{refused-not-done, both-passed, both-pass, RightFormat, format-right, round-bit-right, round-bit-passes}
+use Rattle.words.proofs.Laws.{both-passed, both-pass, RightFormat, format-right, round-bit-right, round-bit-passes}
+use Rattle.round_bit.proofs.Checks.{word-done}
 use Rattle.digit_text.specs.Digits.{none, byteOf, text, textValue}
 use Rattle.digit_text.specs.Reading.{faulty, readCheck, readRound, readWord, readAnswer, readOf}
 use Rattle.digit_text.proofs.Laws.Steps.{Steps, steps-bits, steps-fit, bitBelow, digitsText, digits-steps, steps-read}
@@ -34,23 +34,18 @@ read-steps : (t : List ℕ) → faulty t ≡ false → (b : ℕ) × Steps b t (r
 unfolding readRound
 read-steps t g = let p = good-stepping t g in (p .bit, rw (sign-from-none t (length t)) (p .stepping))
 
--- ---- what a done check asks, and the word of a done reading
+-- ---- what a done check asks
 read-passes : (t : List ℕ) (e : ℤ) → RightFormat (format (length t) e) → faulty t ≡ false → readCheck t e ≡ Done
 unfolding readCheck formatCheck
 read-passes t e g f =
     let p = both-passed (refuseFor Width (badWidth (length t))) (refuseFor Unit (badUnit e)) (format-right (format (length t) e) g) in
     both-pass (p .0) (both-pass (p .1) (rw f))
 
-read-done : (o : Outcome) (w : RoundBitWord) → readAnswer o w .outcome ≡ Done → (o ≡ Done) × (readAnswer o w .word ≡ w)
-unfolding readAnswer
-read-done Done w e = (refl, refl)
-read-done (Refused c) w e = absurd (refused-not-done e)
-
 -- ---- closed: the word of a done reading passes its own check
 pub read-closed : (t : List ℕ) (e : ℤ) → readOf t e .outcome ≡ Done → roundBitCheck (readOf t e .word) ≡ Done
 unfolding readOf readWord
 read-closed t e d =
-    let c = read-done (readCheck t e) (readWord t e) d in
+    let c = word-done (readCheck t e) (readWord t e) d in
     let p = read-right t e (c .0) in
     let s = read-steps t (p .1) .1 in
     let fit = steps-fit s (omega (arith, p .0 .narrow)) in
@@ -62,7 +57,7 @@ unfolding faulty
 text-not-faulty w h = rw (text-good w h) (le-ltb (length (text w)) (length (text w)) (omega arith))
 
 -- what is read is the value a + r less the round bit that is read, and that round bit
-read-text : (w : RoundBitWord) → roundBitCheck w ≡ Done → (s : ℕ) → readRound (text w) ≡ s → readOf (text w) (w .format .unit) ≡ readAnswer Done (roundBitWord (w .number .0 +ℤ pos (w .number .1) -ℤ pos s) s (w .format))
+read-text : (w : RoundBitWord) → roundBitCheck w ≡ Done → (s : ℕ) → readRound (text w) ≡ s → readOf (text w) (w .format .unit) ≡ readAnswer (roundBitDone (roundBitWord (w .number .0 +ℤ pos (w .number .1) -ℤ pos s) s (w .format)))
 unfolding readOf readWord
 read-text w e s q =
     let g = round-bit-right w e in
@@ -70,7 +65,7 @@ read-text w e s q =
     let done = read-passes (text w) (f .unit) (rw (text-length w) (g .format)) (text-not-faulty w (g .bit)) in
     rw (done, q, text-value w e, text-length w)
 
-pub write-read : (w : RoundBitWord) → roundBitCheck w ≡ Done → (w .number ≡ record { 0 = negsuc 0; 1 = 1 } → ⊥) → readOf (text w) (w .format .unit) ≡ readAnswer Done w
+pub write-read : (w : RoundBitWord) → roundBitCheck w ≡ Done → (w .number ≡ record { 0 = negsuc 0; 1 = 1 } → ⊥) → readOf (text w) (w .format .unit) ≡ readAnswer (roundBitDone w)
 unfolding readRound
 write-read w e n = go (last-sign (bitBelow x k) (digits-steps x (round-bit-right w e .bit) k))
   where
@@ -80,7 +75,7 @@ write-read w e n = go (last-sign (bitBelow x k) (digits-steps x (round-bit-right
     k : ℕ
     k = w .format .width
 
-    go : (plusBit (signFrom none (digitsText x k) (length (digitsText x k))) ≡ x .1) ⊎ ((textValue (digitsText x k) ≡ pos 0) × (x .1 ≡ 1)) → readOf (text w) (w .format .unit) ≡ readAnswer Done w
+    go : (plusBit (signFrom none (digitsText x k) (length (digitsText x k))) ≡ x .1) ⊎ ((textValue (digitsText x k) ≡ pos 0) × (x .1 ≡ 1)) → readOf (text w) (w .format .unit) ≡ readAnswer (roundBitDone w)
     go (inl q) = rw (read-text w e (x .1) (rw (sign-from-none (text w) (length (text w)), text-is w) q), +ℤ-negℤ-cancel (x .0) (pos (x .1)))
     go (inr q) =
         let sum = text-value w e in
@@ -100,7 +95,7 @@ minus-one-sign (suc n) =
     one-below zero = refl
     one-below (suc i) = digit-minus-one i
 
-pub write-read-minus-one : (f : Format) → roundBitCheck (roundBitWord (negsuc 0) 1 f) ≡ Done → readOf (text (roundBitWord (negsuc 0) 1 f)) (f .unit) ≡ readAnswer Done (roundBitWord (pos 0) 0 f)
+pub write-read-minus-one : (f : Format) → roundBitCheck (roundBitWord (negsuc 0) 1 f) ≡ Done → readOf (text (roundBitWord (negsuc 0) 1 f)) (f .unit) ≡ readAnswer (roundBitDone (roundBitWord (pos 0) 0 f))
 unfolding readRound
 write-read-minus-one f e =
     let w = roundBitWord (negsuc 0) 1 f in

@@ -1,7 +1,9 @@
 use mathlib.Core.Path.{_≡_, sym, _∙_}
 use mir.Facts.{toZ-ofZ}
+use Rattle.words.specs.RoundBit.{roundBitRefused, roundBitDone}
 use Rattle.words.specs.declared.Outcome.the-variants.{Done}
-use Rattle.digit_text.specs.Reading.{readCheck, readAnswer, readOf}
+use Rattle.words.proofs.Arms.{refused-into, done-into}
+use Rattle.digit_text.specs.Reading.{readCheck, readWord, readAnswer, readOf}
 use borrow.Author.Needs.{needs}
 use Rattle.digit_text.proofs.read.Statement.{statement}
 use Rattle.digit_text.proofs.read.Tie as tie
@@ -9,34 +11,23 @@ use Rattle.digit_text.proofs.read.Tie as tie
 checked : (c : tie.After-read-check) → c .read-check .result ≡ readCheck (c .before .before .args .text .now) (c .before .before .args .unit)
 checked c = c .read-check .ensures ∙ rw (toZ-ofZ (c .before .before .fits .unit))
 
-passed : (c : tie.After-enum-told) → readCheck (c .before .before .before .before .args .text .now) (c .before .before .before .before .args .unit) ≡ Done
-passed c = sym (checked (c .before .before)) ∙ c .enum-told .given .1
+made : (c : tie.After-read-word) → let a = c .before .before .before .before .before .args in c .read-word .result ≡ readWord (a .text .now) (a .unit)
+made c = c .read-word .ensures ∙ rw (toZ-ofZ (c .before .before .before .before .before .fits .unit))
 
 read-word-requires : tie.Need-read-word-requires
-read-word-requires c κs = rw (toZ-ofZ (c .before .before .before .before .fits .unit)) (passed c)
+read-word-requires c κs = sym (c .before .before .read-check .ensures) ∙ c .enum-told .given .1
 
 returns : tie.Need-returns
-unfolding readAnswer readOf
+unfolding readOf
 returns c =
-    let b = c .before .before .before .before in
-    c .read-answer .ensures ∙ rw (← checked (b .before .before), b .c .given .1)
+    let b = c .before .before .before in
+    refused-into readAnswer roundBitRefused _ _ _ _ _ _ (checked (b .before .before)) (b .c .given .1) (c .before .round-bit-refused .ensures) (c .read-answer .ensures)
 
 returns-2 : tie.Need-returns-2
 unfolding readOf
 returns-2 c =
     let b = c .before .before in
-    rw (c .read-answer2 .ensures, c .before .read-word .ensures, toZ-ofZ (b .before .before .before .before .fits .unit), passed b)
+    done-into readAnswer roundBitRefused roundBitDone _ _ _ _ _ _ (checked (b .before .before .before)) (b .before .enum-told .given .1) (made b) (c .before .round-bit-done .ensures) (c .read-answer2 .ensures)
 
 pub read-spec : {M : Type 1} → statement M
-read-spec =
-    tie.close
-    (tie.spec
-    (λ c κs. search needs)
-    (λ c. search needs)
-    (λ c κs. search needs)
-    (λ c κs. search needs)
-    (λ c. search needs)
-    read-word-requires
-    (λ c κs. search needs)
-    returns
-    returns-2)
+read-spec = tie.close (tie.spec (λ c κs. search needs) (λ c. search needs) (λ c κs. search needs) (λ c κs. search needs) (λ c. search needs) read-word-requires (λ c κs. search needs) (λ c κs. search needs) returns returns-2)

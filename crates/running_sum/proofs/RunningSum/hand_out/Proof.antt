@@ -10,7 +10,7 @@ returns c = rw (← c .before .before .before .sum-check .ensures, c .before .c 
 returns-2 : tie.Need-returns-2
 unfolding stepOf stepped
 returns-2 c =
-    rw (← c .before .before .before .before .before .before .sum-check .ensures, c .before .before .before .before .enum-told .given .1, ← c .before .before .before .cut .ensures, ← c .before .before .rest .ensures, c .keeping .ensures)
+    rw (← c .before .before .before .before .before .before .sum-check .ensures, c .before .before .before .before .enum-told .given .1, c .before .before .before .cut .ensures, ← c .before .before .rest .ensures, c .keeping .ensures)
 
 pub hand-out-spec : {M : Type 1} → statement M
 hand-out-spec = tie.close (tie.spec (λ c κs. search needs) (λ c. search needs) (λ c. search needs) (λ c κs. search needs) (λ c κs. search needs) (λ c κs. search needs) returns returns-2)
