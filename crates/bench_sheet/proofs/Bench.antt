@@ -11,24 +11,21 @@ use lib.ListN.{length}
 use Rattle.integers.specs.Numbers.{eqZ, fitsWidth, floorBy, lowest, cleared, digit, digitsBelow, anyBelow, lowDigits}
 use Rattle.integers.specs.Bytes.{sameBytes}
 use Rattle.words.specs.Words.{value}
-use Rattle.words.specs.Refusals.{numberOf, formatCheck, wordCheck}
+use Rattle.words.specs.Refusals.{numberOf, formatCheck, wordCheck, lentAfter, writeAnswer}
 use Rattle.words.specs.Formats.{format, narrowerCheck, answerCheck}
 use Rattle.words.specs.Plain.{plainCheck}
 use Rattle.words.specs.RoundBit.{roundBitValue, roundBitCheck, roundBitFitted}
 use Rattle.words.specs.HalfUnit.{halfUnitCheck, halfUnitFitted}
-use Rattle.words.specs.Buffers.{lentAfter, writeAnswer}
 use Rattle.words.specs.declared.PlainWord.{PlainWord}
 use Rattle.words.specs.declared.RoundBitWord.{RoundBitWord}
 use Rattle.words.specs.declared.HalfUnitWord.{HalfUnitWord}
 use Rattle.words.proofs.Flat.{Flat, flat, laidFlat, flatRoundBit, flatHalfUnit, sameFlat, plainAt, roundBitAt, halfUnitAt, done, refused}
-use Rattle.round_bit.specs.Cuts.{signChangeWord, cutWord, cutOf, restWord, restOf, evenRoundBit, evenCutWord, evenCutOf, widenWord, widenOf}
-use Rattle.round_bit.specs.Sums.{sumWord, sumOf, differenceOf}
-use Rattle.round_bit.specs.Products.{magnitudeProduct, multiplied, productWord, productOf}
+use Rattle.round_bit.specs.Cuts.{signChangeWord, cutBy, cutOf, restWord, restOf, evenRoundBit, evenCutOf, widenWord, widenOf}
+use Rattle.round_bit.specs.Arithmetic.{sumWord, sumOf, differenceOf, magnitudeProduct, multiplied, productWord, productOf}
 use Rattle.half_unit.specs.Conversions.{fromPlainUpWord, fromPlainUpOf, evenFloor, fromPlainEvenWord, fromPlainEvenOf}
-use Rattle.half_unit.specs.Sums.{sumUpWord, sumUpOf, sumEvenWord, sumEvenOf}
-use Rattle.half_unit.specs.Products as Half
-use Rattle.digit_text.specs.Digits.{signedDigit, byteOf, byteAt, text as textOf}
-use Rattle.digit_text.specs.Writing.{writeCheck, writeOf, bufferOf}
+use Rattle.half_unit.specs.Arithmetic.{sumUpWord, sumUpOf, sumEvenWord, sumEvenOf}
+use Rattle.half_unit.specs.Arithmetic as Half
+use Rattle.digit_text.specs.Digits.{signedDigit, byteOf, byteAt, text as textOf, writeCheck, writeOf, bufferOf}
 use Rattle.running_sum.specs.declared.RunningSum.{RunningSum}
 use Rattle.running_sum.specs.Steps.{Call, put, handOut, depthCheck, openAnswer, openOf, stepped, putCheck, stepOf}
 
@@ -153,5 +150,5 @@ bench =
 
 -- there is a row for each of P1 to P14, and every check of every row holds
 bench-holds : (length bench ≡ 14) × (hold bench ≡ true)
-unfolding fitsWidth floorBy lowest cleared digit digitsBelow anyBelow lowDigits value formatCheck wordCheck narrowerCheck answerCheck plainCheck roundBitCheck roundBitFitted halfUnitCheck halfUnitFitted lentAfter writeAnswer signChangeWord cutWord restWord evenRoundBit evenCutWord widenWord sumWord magnitudeProduct multiplied productWord fromPlainUpWord evenFloor fromPlainEvenWord sumUpWord sumEvenWord Half.multiplied Half.productWord signedDigit byteOf byteAt textOf writeCheck writeOf bufferOf depthCheck openAnswer openOf stepped putCheck stepOf
+unfolding fitsWidth floorBy lowest cleared digit digitsBelow anyBelow lowDigits value formatCheck wordCheck narrowerCheck answerCheck plainCheck roundBitCheck roundBitFitted halfUnitCheck halfUnitFitted lentAfter writeAnswer signChangeWord cutBy restWord evenRoundBit widenWord sumWord magnitudeProduct multiplied productWord fromPlainUpWord evenFloor fromPlainEvenWord sumUpWord sumEvenWord Half.multiplied Half.productWord signedDigit byteOf byteAt textOf writeCheck writeOf bufferOf depthCheck openAnswer openOf stepped putCheck stepOf
 bench-holds = (refl, refl)

@@ -25,8 +25,7 @@ use Rattle.words.specs.declared.Outcome.the-variants.{Done}
 use Rattle.words.specs.declared.RoundBit.{RoundBit}
 use Rattle.words.specs.declared.RoundBitWord.{RoundBitWord}
 use Rattle.words.proofs.Laws.{RightFormat, right-format, both-passed, three-passed, both-pass, passed}
-use Rattle.digit_text.specs.Digits.{plus, none, minus, signedDigit, byteOf, digitOf, textValue, signBefore}
-use Rattle.digit_text.specs.Writing.{writeCheck}
+use Rattle.digit_text.specs.Digits.{plus, none, minus, signedDigit, byteOf, digitOf, textValue, signBefore, writeCheck}
 use Rattle.digit_text.specs.Reading.{strange, goodAt, faulty, readCheck, readRound}
 
 -- ---- a digit and its byte

@@ -6,11 +6,8 @@ use Rattle.digit_text.specs.{declared.ReadAnswer.ReadAnswer, Digits.{plu
 abbrev pub strange : ℕ → Bool  -- a byte "that is not `+`, `0` or `-`"
 strange b = not (eqb b plus || eqb b none || eqb b minus)
 
-abbrev pub repeats : List ℕ → ℕ → Bool  -- "two nonzero digits of one sign with nothing or only zeros between them": the later of them repeats the sign before it
-repeats t k = not (eqb (getD t k none) none) && eqb (getD t k none) (signBefore t k)
-
-unfoldable pub goodAt : List ℕ → ℕ → Bool
-goodAt t k = not (strange (getD t k none) || repeats t k)
+unfoldable pub goodAt : List ℕ → ℕ → Bool  -- nor the later of "two nonzero digits of one sign with nothing or only zeros between them": it repeats the sign before it
+goodAt t k = let b = getD t k none in not (strange b || (not (eqb b none) && eqb b (signBefore t k)))
 
 unfoldable pub firstFault : List ℕ → ℕ  -- the place of the first fault from the start, or the length where there is none
 firstFault t = firstBad (length t) (goodAt t)
@@ -21,12 +18,10 @@ faulty t = ltb (firstFault t) (length t)
 unfoldable pub readCheck : List ℕ → ℤ → Outcome  -- "its length is the width": 1 of the length, 2, then 9
 readCheck t e = refuse 1 (badWidth (length t)) orElse refuse 2 (badUnit e) orElse refuse 9 (faulty t)
 
--- "the answer is the word whose digit text it is": its value is a + r, and below its lowest nonzero digit all digits of a are r, so r is 1
--- exactly where that digit is `+`. "All zeros reads as (0,0)"
-unfoldable pub readRound : List ℕ → ℕ
+unfoldable pub readRound : List ℕ → ℕ  -- below the lowest nonzero digit all digits of a are r, so r is 1 where that digit is `+`. "All zeros reads as (0,0)"
 readRound t = cond (eqb (signBefore t (length t)) plus) 1 0
 
-unfoldable pub readWord : List ℕ → ℤ → RoundBitWord
+unfoldable pub readWord : List ℕ → ℤ → RoundBitWord  -- "the answer is the word whose digit text it is": its value is a + r
 readWord t e = roundBitWord (textValue t -ℤ pos (readRound t)) (readRound t) (format (length t) e)
 
 abbrev pub readAnswer : RoundBitAnswer → ReadAnswer  -- the answer of a reading has what any answer has

@@ -1,10 +1,8 @@
 -- The C boundary: how a flat word is read, and how an answer is laid flat. An outcome is its number in document 01's table.
-use Rattle.words.specs.{Refusals.numberOf, Formats.format, Plain.plainWord, RoundBit.roundBitWord, HalfUnit.halfUnitWord}
-use Rattle.words.specs.declared.{Outcome.Outcome, PlainWord.PlainWord, RoundBitWord.RoundBitWord, HalfUnitWord.HalfUnitWord, WriteAnswer.WriteAnswer}
+use Rattle.words.specs.{declared.{Outcome.Outcome, PlainWord.PlainWord, RoundBitWord.RoundBitWord, HalfUnitWord.HalfUnitWord, WriteAnswer.WriteAnswer}, Refusals.numberOf, Formats.format, Plain.plainWord, RoundBit.roundBitWord, HalfUnit.halfUnitWord}
 use Rattle.running_sum.specs.declared.RunningSum.{RunningSum}
 use Rattle.block_file.specs.declared.ReadAnswer.{ReadAnswer}
-use Rattle.frostuldi.specs.declared.{FrostPlain.FrostPlain, FrostHalfUnit.FrostHalfUnit, FrostRoundBit.FrostRoundBit, FrostPlainAnswer.FrostPlainAnswer, FrostHalfUnitAnswer.FrostHalfUnitAnswer, FrostRoundBitAnswer.FrostRoundBitAnswer}
-use Rattle.frostuldi.specs.declared.{FrostRunningSum.FrostRunningSum, FrostSumAnswer.FrostSumAnswer, FrostFileHead.FrostFileHead, FrostWritten.FrostWritten}
+use Rattle.frostuldi.specs.declared.{FrostPlain.FrostPlain, FrostHalfUnit.FrostHalfUnit, FrostRoundBit.FrostRoundBit, FrostPlainAnswer.FrostPlainAnswer, FrostHalfUnitAnswer.FrostHalfUnitAnswer, FrostRoundBitAnswer.FrostRoundBitAnswer, FrostRunningSum.FrostRunningSum, FrostSumAnswer.FrostSumAnswer, FrostFileHead.FrostFileHead, FrostWritten.FrostWritten}
 
 abbrev pub plainIn : FrostPlain → PlainWord  -- what comes in
 plainIn w = plainWord (w .number) (format (w .width) (w .unit))
@@ -40,8 +38,7 @@ abbrev pub sumOut : Outcome → RoundBitWord → RunningSum → FrostSumAnswer
 sumOut o w s = record { sum = record { kept = flatRoundBit (s .kept); depth = s .depth }; word = flatRoundBit w; refusal = numberOf o }
 
 abbrev pub headOut : ReadAnswer → FrostFileHead
-headOut a =
-    record { refusal = numberOf (a .outcome); kind = a .head .kind; width = a .head .format .width; unit = a .head .format .unit; count = a .head .count }
+headOut a = record { refusal = numberOf (a .outcome); kind = a .head .kind; width = a .head .format .width; unit = a .head .format .unit; count = a .head .count }
 
 abbrev pub writtenOut : WriteAnswer → FrostWritten
 writtenOut a = record { bytes = a .count; refusal = numberOf (a .outcome) }

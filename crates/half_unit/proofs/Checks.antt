@@ -19,8 +19,7 @@ use Rattle.words.proofs.Laws.{both-passed, three-passed}
 use Rattle.words.proofs.Formats.{answer-format}
 use Rattle.half_unit.specs.Cuts.{cutCheck}
 use Rattle.half_unit.specs.Conversions.{fromPlainCheck, toPlainCheck, fromRoundBitCheck}
-use Rattle.half_unit.specs.Sums.{sumCheck}
-use Rattle.half_unit.specs.Products.{productFormat, productCheck}
+use Rattle.half_unit.specs.Arithmetic.{sumCheck, productFormat, productCheck}
 
 pub cut-passed : (w : HalfUnitWord) (d : ℕ) → cutCheck w d ≡ Done → (halfUnitCheck w ≡ Done) × (narrowerCheck (w .format) d ≡ Done)
 cut-passed w d e = both-passed (halfUnitCheck w) (narrowerCheck (w .format) d) e

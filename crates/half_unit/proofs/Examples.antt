@@ -6,7 +6,7 @@ use Rattle.words.specs.Refusals.{cause, formatCheck, wordCheck}
 use Rattle.words.specs.Formats.{format, answerCheck}
 use Rattle.words.specs.HalfUnit.{halfUnitWord, halfUnitCheck, halfUnitRefused, halfUnitDone}
 use Rattle.words.proofs.Flat.{halfUnitAt as at}
-use Rattle.half_unit.specs.Products.{multiplied, productWord, productOf}
+use Rattle.half_unit.specs.Arithmetic.{multiplied, productWord, productOf}
 
 -- "Widths 32 and 32: .. half-unit product 6. Widths 32 and 31: half-unit product done."
 widths : (productOf (at 32 (pos 0)) (at 32 (pos 0)) ≡ halfUnitRefused (cause 6 tt))

@@ -19,8 +19,7 @@ use Rattle.words.specs.declared.RoundBitWord.{RoundBitWord}
 use Rattle.words.specs.declared.HalfUnitWord.{HalfUnitWord}
 use Rattle.half_unit.specs.Cuts.{signChangeWord, signChangeOf, cutWord, cutOf}
 use Rattle.half_unit.specs.Conversions.{fromPlainUpWord, fromPlainUpOf, evenFloor, fromPlainEvenWord, fromPlainEvenOf, toPlainWord, toPlainOf, toRoundBitWord, toRoundBitOf, fromRoundBitWord, fromRoundBitOf}
-use Rattle.half_unit.specs.Sums.{sumUpWord, sumUpOf, sumEvenWord, sumEvenOf}
-use Rattle.half_unit.specs.Products.{multiplied, productWord, productOf}
+use Rattle.half_unit.specs.Arithmetic.{sumUpWord, sumUpOf, sumEvenWord, sumEvenOf, multiplied, productWord, productOf}
 
 data Row : Type 0 where
   signChange toPlain toRoundBit : HalfUnitWord → Flat → Row

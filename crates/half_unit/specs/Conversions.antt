@@ -45,8 +45,5 @@ fromRoundBitCheck w = roundBitCheck w orElse answerCheck (wider (w .format) 1)
 abbrev pub fromRoundBitOf : RoundBitWord → HalfUnitAnswer
 fromRoundBitOf w = fromRoundBitCheck w andThen halfUnitDone (fromRoundBitWord w)
 
-abbrev pub intervalLow : RoundBitWord → ℤ  -- a round-bit word's interval [a + r/2, a + (1+r)/2] (000, section 5.1), its two ends in halves of the word's unit
-intervalLow w = (pos 2 *ℤ w .number .0) +ℤ pos (w .number .1)
-
-abbrev pub intervalHigh : RoundBitWord → ℤ
-intervalHigh w = (pos 2 *ℤ w .number .0) +ℤ pos (1 + w .number .1)
+abbrev pub interval : RoundBitWord → ℤ × ℤ  -- [a + r/2, a + (1+r)/2] (000, section 5.1), its two ends in halves of the word's unit
+interval w = let record { 0 = a; 1 = r } = w .number in ((pos 2 *ℤ a) +ℤ pos r, (pos 2 *ℤ a) +ℤ pos (1 + r))

@@ -1,4 +1,3 @@
 pub mod Cuts
 pub mod Conversions
-pub mod Sums
-pub mod Products
+pub mod Arithmetic

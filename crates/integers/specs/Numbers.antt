@@ -1,6 +1,6 @@
 -- Whole numbers as document 01 speaks of them: a range, the floor of a division by 2 ^ d, the digits in two's complement.
 use Prim.Native.Nat.{ℕ, zero, suc, _+_, _-_, _*_, _%_, _^_}
-use mathlib.Core.Bool.{Bool, _&&_}
+use mathlib.Core.Bool.{Bool, true, false, not, _&&_}
 use lib.Bits.{bitOr}
 use lib.IntN.{ℤ, pos, negsuc, negℤ, _-ℤ_}
 use lib.Signed.{leZ, shrZ}
@@ -12,6 +12,11 @@ lies lo hi x = leZ lo x && leZ x hi
 -- a is b
 abbrev pub eqZ : ℤ → ℤ → Bool
 eqZ a b = lies a a b
+
+-- exactly one of two tests holds
+abbrev pub exactlyOne : Bool → Bool → Bool
+exactlyOne true b = not b
+exactlyOne false b = b
 
 -- x fits n digits, n ≥ 1: it "lies from -2^(n-1) to 2^(n-1)-1"
 unfoldable pub fitsWidth : ℤ → ℕ → Bool

@@ -2,17 +2,22 @@
 use Prim.Native.Nat.{ℕ, zero, suc, _-_}
 use native.Mathlib.Omega.{arith}
 use mathlib.Core.Path.{_≡_, refl}
-use Rattle.integers.specs.Numbers.{floorBy, digit, lowDigits}
-use Rattle.words.specs.Formats.{narrower, narrowerCheck, wider, answerCheck}
+use lib.IntN.{ℤ}
+use mir.Syntax.{w64}
+use mir.Val.{SFits, toZ, ofZ}
+use mir.Facts.{toZ-ofZ}
+use Rattle.integers.specs.Numbers.{floorBy, lowDigits}
+use Rattle.words.specs.Formats.{narrower, narrowerCheck, wider, answerCheck, formatAnswer}
 use Rattle.words.specs.RoundBit.{roundBitWord, roundBitCheck, roundBitRefused, roundBitDone, _andThen_}
 use Rattle.words.specs.declared.Outcome.{Outcome}
 use Rattle.words.specs.declared.Outcome.the-variants.{Done, Refused}
+use Rattle.words.specs.declared.FormatAnswer.{FormatAnswer}
 use Rattle.words.specs.declared.RoundBitWord.{RoundBitWord}
-use Rattle.words.proofs.Laws.{refused-not-done, both-passed, three-passed}
+use Rattle.words.proofs.Laws.{refused-not-done, both-passed, three-passed, round-bit-right, machine}
+use Rattle.words.proofs.Formats.{answer-format}
 use Rattle.words.proofs.Operands.{outcome-kept}
-use Rattle.round_bit.specs.Cuts.{cutWord, cutCheck, restWord, evenRoundBit, evenCutWord, widenCheck}
-use Rattle.round_bit.specs.Sums.{sumCheck}
-use Rattle.round_bit.specs.Products.{productFormat, productCheck}
+use Rattle.round_bit.specs.Cuts.{cutBy, cutCheck, restWord, widenCheck}
+use Rattle.round_bit.specs.Arithmetic.{sumCheck, productFormat, productCheck}
 
 -- a done answer passed its check, and has the word that it was made with
 pub word-done : (o : Outcome) (w : RoundBitWord) → (o andThen roundBitDone w) .outcome ≡ Done → (o ≡ Done) × ((o andThen roundBitDone w) .word ≡ w)
@@ -38,15 +43,13 @@ product-passed x y e = three-passed (roundBitCheck x) (roundBitCheck y) _ e
 one-less : (k : ℕ) → suc k - 1 ≡ k
 one-less k = omega arith
 
-pub cut-some : (w : RoundBitWord) (d : ℕ) → (d ≡ 0 → ⊥) → cutWord w d ≡ roundBitWord (floorBy (w .number .0) d) (digit (w .number .0) (d - 1)) (narrower (w .format) d)
-unfolding cutWord
-cut-some w zero h = absurd (h refl)
-cut-some w (suc k) h = rw (one-less k)
-
-pub even-cut-some : (w : RoundBitWord) (d : ℕ) → (d ≡ 0 → ⊥) → evenCutWord w d ≡ roundBitWord (floorBy (w .number .0) d) (evenRoundBit (w .number .0) (d - 1)) (narrower (w .format) d)
-unfolding evenCutWord
-even-cut-some w zero h = absurd (h refl)
-even-cut-some w (suc k) h = rw (one-less k)
+-- the word that the code makes at such a depth: the floor q, the round bit r by a rule, and the format that it was handed
+pub cut-made : (rule : ℤ → ℕ → ℕ) (w : RoundBitWord) (d : ℕ) (q : ℤ) (r : ℕ) (a : FormatAnswer) → (d ≡ 0 → ⊥) → cutCheck w d ≡ Done → a ≡ formatAnswer (narrowerCheck (w .format) d) (narrower (w .format) d) → SFits w64 q → q ≡ floorBy (toZ w64 (ofZ w64 (w .number .0))) d → r ≡ rule (toZ w64 (ofZ w64 (w .number .0))) (d - 1) → roundBitWord (toZ w64 (ofZ w64 q)) r (a .format) ≡ cutBy rule w d
+unfolding cutBy
+cut-made rule w zero q r a h e f s g b = absurd (h refl)
+cut-made rule w (suc k) q r a h e f s g b =
+    let p = cut-passed w (suc k) e in
+    rw (f, answer-format _ _ (p .1), toZ-ofZ s, g, b, toZ-ofZ (machine (round-bit-right w (p .0))), one-less k)
 
 pub rest-some : (w : RoundBitWord) (d : ℕ) → (d ≡ 0 → ⊥) → restWord w d ≡ roundBitWord (lowDigits (w .number .0) d) (w .number .1) (w .format)
 unfolding restWord

@@ -8,9 +8,7 @@ use Rattle.words.specs.Plain.{plainRefused, plainFitted}
 use Rattle.words.specs.RoundBit.{roundBitCheck, roundBitDone}
 use Rattle.words.proofs.Flat.{roundBitAt as at}
 use Rattle.round_bit.specs.Cuts.{signChangeWord}
-use Rattle.round_bit.specs.Sums.{sumWord}
-use Rattle.round_bit.specs.Products.{magnitudeProduct, multiplied, productWord, productOf}
-use Rattle.round_bit.specs.Conversions.{toPlainWord, toPlainOf}
+use Rattle.round_bit.specs.Arithmetic.{sumWord, magnitudeProduct, multiplied, productWord, productOf, toPlainWord, toPlainOf}
 
 -- "Widths 32 and 32: round-bit product done at 63"; "(15,1) to plain: 8."
 widths : (productOf (at 32 (pos 0) 0) (at 32 (pos 0) 0) ≡ roundBitDone (at 63 (pos 0) 0))

@@ -8,13 +8,14 @@ use lib.Bits.{bitAnd}
 use lib.IntN.{ℤ, pos, negsuc, _+ℤ_, _*ℤ_}
 use lib.Signed.{mag, ltZ, _≤ℤ_}
 use lib.Pow.{pow-add, pow-mono}
+use Rattle.integers.specs.Numbers.{exactlyOne}
 use Rattle.integers.proofs.Kit.{ints}
 use Rattle.words.specs.declared.Outcome.the-variants.{Done}
 use Rattle.words.specs.declared.RoundBit.{RoundBit}
 use Rattle.words.specs.declared.RoundBitWord.{RoundBitWord}
 use Rattle.words.proofs.Laws.{round-bit-right}
 use Rattle.words.proofs.Formats.{answer-right}
-use Rattle.round_bit.specs.Products.{magnitudeProduct, negative, magnitude, exactlyOne, productFormat, productCheck}
+use Rattle.round_bit.specs.Arithmetic.{magnitudeProduct, negative, magnitude, productFormat, productCheck}
 use Rattle.round_bit.proofs.Checks.{product-passed}
 use Rattle.round_bit.proofs.Laws.Signs.{signs-if-bit, magnitude-is-size}
 

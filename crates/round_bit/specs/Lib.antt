@@ -1,4 +1,2 @@
 pub mod Cuts
-pub mod Sums
-pub mod Products
-pub mod Conversions
+pub mod Arithmetic

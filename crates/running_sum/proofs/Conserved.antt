@@ -17,7 +17,7 @@ use Rattle.words.proofs.Laws.{refused-not-done, both-passed, three-passed, pass
 use Rattle.words.proofs.Operands.{same-format}
 use Rattle.words.proofs.Rights.{nothing-right}
 use Rattle.round_bit.specs.Cuts.{cutOf, restOf}
-use Rattle.round_bit.specs.Sums.{sumOf}
+use Rattle.round_bit.specs.Arithmetic.{sumOf}
 use Rattle.round_bit.proofs.Laws.Cuts.{cut-done, cut-format, rest-format, rest-done, rest-closed, rest-refuses, rest-value, rest-small}
 use Rattle.round_bit.proofs.Laws.Sums.{sum-format, sum-done, sum-closed, sum-value}
 use Rattle.running_sum.specs.declared.RunningSum.{RunningSum}

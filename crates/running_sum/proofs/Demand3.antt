@@ -18,8 +18,7 @@ use Rattle.words.proofs.Laws.{both-passed, right-format, round-bit-passes}
 use Rattle.words.proofs.Rights.{nothing-right}
 use Rattle.running_sum.specs.declared.RunningSum.{RunningSum}
 use Rattle.running_sum.specs.Steps.{nothing, depthCheck, openCheck, openAnswer, openOf, Call, handOut, empty, sumCheck, stepOf}
-use Rattle.running_sum.specs.Totals.{takenIn, givenOut, accepted, handedOut}
-use Rattle.running_sum.specs.Runs.{answered, left}
+use Rattle.running_sum.specs.Totals.{takenIn, givenOut, accepted, handedOut, answered, left}
 use Rattle.running_sum.specs.Demand3.{Demand3}
 use Rattle.running_sum.proofs.Conserved.{step-conserves, step-format, step-keeps, hand-out-small, empty-nothing, shut-step, shut}
 

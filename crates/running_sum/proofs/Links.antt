@@ -17,8 +17,7 @@ use Rattle.running_sum.specs.declared.PutAnswer.{PutAnswer}
 use Rattle.running_sum.specs.declared.HandOutAnswer.{HandOutAnswer}
 use Rattle.running_sum.specs.declared.EmptyAnswer.{EmptyAnswer}
 use Rattle.running_sum.specs.Steps.{Call, put, handOut, empty, blank, sumCheck, stepOf, openOf}
-use Rattle.running_sum.specs.Totals.{Answered, accepted, handedOut}
-use Rattle.running_sum.specs.Runs.{answeredBy, answered, left}
+use Rattle.running_sum.specs.Totals.{Answered, accepted, handedOut, answered, left}
 use Rattle.running_sum.proofs.open.Reads as open-method
 use Rattle.running_sum.proofs.RunningSum.put.Reads as put-method
 use Rattle.running_sum.proofs.RunningSum.hand_out.Reads as hand-out-method
@@ -53,7 +52,8 @@ links-run no-link = (refl, refl)
 links-run (link {s = s} {t = t} {u = u} {a = a} {more = more} m l) =
     let p = meets-step s (a .call) (a .outcome) (a .word) t m in
     let r = links-run l in
-    let first : a ≡ answeredBy (a .call) (stepOf s (a .call)) = λ i. record { call = a .call; outcome = p .0 i; word = p .1 i } in (
+    let t = stepOf s (a .call) in
+    let first : a ≡ record { call = a .call; outcome = t .outcome; word = t .word } = λ i. record { call = a .call; outcome = p .0 i; word = p .1 i } in (
       (λ i. first i ∷ (r .0 ∙ ap (λ (x : RunningSum). answered x (calls more)) (p .2)) i),
       r .1 ∙ ap (λ (x : RunningSum). left x (calls more)) (p .2),
     )

@@ -15,8 +15,8 @@ use Rattle.words.specs.RoundBit.{roundBitCheck, roundBitFitted}
 use Rattle.words.proofs.Flat.{Flat, flat, laidFlat, sameFlat, roundBitAt, refused as noWord}
 use Rattle.words.specs.declared.Outcome.{Outcome}
 use Rattle.words.specs.declared.RoundBitWord.{RoundBitWord}
-use Rattle.round_bit.specs.Cuts.{cutWord, restWord}
-use Rattle.round_bit.specs.Sums.{sumWord}
+use Rattle.round_bit.specs.Cuts.{cutBy, restWord}
+use Rattle.round_bit.specs.Arithmetic.{sumWord}
 use Rattle.running_sum.specs.declared.RunningSum.{RunningSum}
 use Rattle.running_sum.specs.Steps.{blank, depthCheck, openAnswer, openOf, Call, put, handOut, empty, stepped, putCheck, stepOf}
 
@@ -83,5 +83,5 @@ abbrev differs : Row → Bool
 differs r = not (sameAnswer (answer r) (claimed r))
 
 all-wrong : all (length wrong) (λ k. differs (getD wrong k (opening 8 (pos 0) 2 (gives (noWord 0) (pos 0) 0)))) ≡ true
-unfolding firstBad fitsWidth floorBy lowest digit digitsBelow lowDigits formatCheck wordCheck narrowerCheck roundBitCheck roundBitFitted cutWord restWord sumWord depthCheck openAnswer openOf stepped putCheck stepOf
+unfolding firstBad fitsWidth floorBy lowest digit digitsBelow lowDigits formatCheck wordCheck narrowerCheck roundBitCheck roundBitFitted cutBy restWord sumWord depthCheck openAnswer openOf stepped putCheck stepOf
 all-wrong = refl

@@ -1,21 +1,17 @@
--- Demand 3, sentence by sentence, of the sum that an opening gave, done or refused, and of any calls on it. Values are in half units of
--- the sum's unit, so half a coarse unit is 2 ^ depth.
+-- Demand 3, of the sum that an opening gave, done or refused, and of any calls on it. In half units of the sum, half a coarse unit is 2 ^ depth.
 use Rattle.integers.specs.Names.{ℕ, _^_, _≤_, _≡_, List, [], _∷_, _++_, ℤ, natAbs, _+ℤ_, _-ℤ_}
 use Rattle.words.specs.{declared.Outcome.the-variants.Done, RoundBit.roundBitValue}
-use Rattle.running_sum.specs.{declared.RunningSum.RunningSum, Steps.{openOf, Call, handOut, empty, stepOf}, Totals.{accepted, handedOut}, Runs.{answered, left}}
+use Rattle.running_sum.specs.{declared.RunningSum.RunningSum, Steps.{openOf, Call, handOut, empty, stepOf}, Totals.{answered, left, accepted, handedOut}}
 
 module _ (n : ℕ) (e : ℤ) (d : ℕ) where
   abbrev pub opened : RunningSum
   opened = openOf n e d .sum
 
-  abbrev pub unit : ℤ
-  unit = opened .kept .format .unit
-
   abbrev pub totalIn : List Call → ℤ
-  totalIn cs = accepted unit (answered opened cs)
+  totalIn cs = accepted (opened .kept .format .unit) (answered opened cs)
 
   abbrev pub totalOut : List Call → ℤ
-  totalOut cs = handedOut unit (answered opened cs)
+  totalOut cs = handedOut (opened .kept .format .unit) (answered opened cs)
 
   abbrev pub keptAfter : List Call → ℤ
   keptAfter cs = roundBitValue (left opened cs .kept)

@@ -1,7 +1,7 @@
 -- Document 01, "The running sum": opening, and one call on any running sum.
-use Rattle.integers.specs.Names.{ℕ, _-_, Bool, _||_, eqb, ltb, ℤ, pos, _+ℤ_}
+use Rattle.integers.specs.Names.{ℕ, _-_, _||_, eqb, ltb, ℤ, pos, _+ℤ_}
 use Rattle.words.specs.{declared.{Outcome.{Outcome, the-variants.{Done, Refused}}, Format.Format, RoundBitWord.RoundBitWord}, Words.badUnit, Refusals.{refuse, _orElse_, formatCheck, differ, blankFormat}, Formats.format, RoundBit.{roundBitWord, roundBitCheck}}
-use Rattle.round_bit.specs.{Cuts.{cutOf, restOf}, Sums.sumOf}
+use Rattle.round_bit.specs.{Cuts.{cutOf, restOf}, Arithmetic.sumOf}
 use Rattle.running_sum.specs.declared.{RunningSum.RunningSum, OpenAnswer.OpenAnswer, PutAnswer.PutAnswer, HandOutAnswer.HandOutAnswer, EmptyAnswer.EmptyAnswer}
 
 abbrev pub blank : RoundBitWord  -- the blank word, and (0,0) in a format
@@ -10,11 +10,8 @@ blank = roundBitWord (pos 0) 0 blankFormat
 abbrev pub nothing : Format → RoundBitWord
 nothing f = roundBitWord (pos 0) 0 f
 
-abbrev pub badDepth : ℕ → ℕ → Bool  -- 5: "a running sum has, or is opened with, a depth of 0 or more than its width less 2"; then 7, of the coarse unit
-badDepth n d = eqb d 0 || ltb (n - 2) d
-
-unfoldable pub depthCheck : Format → ℕ → Outcome
-depthCheck f d = refuse 5 (badDepth (f .width) d) orElse refuse 7 (badUnit (f .unit +ℤ pos d))
+unfoldable pub depthCheck : Format → ℕ → Outcome  -- 5: "a running sum has, or is opened with, a depth of 0 or more than its width less 2"; then 7, of the coarse unit
+depthCheck f d = refuse 5 (eqb d 0 || ltb (f .width - 2) d) orElse refuse 7 (badUnit (f .unit +ℤ pos d))
 
 abbrev pub openCheck : Format → ℕ → Outcome  -- "Opened with a width N, unit e and depth d": 1, 2, 5 and 7
 openCheck f d = formatCheck f orElse depthCheck f d
@@ -26,10 +23,10 @@ openAnswer (Refused c) f d = record { outcome = Refused c; sum = record { kept =
 unfoldable pub openOf : ℕ → ℤ → ℕ → OpenAnswer
 openOf n e d = openAnswer (openCheck (format n e) d) (format n e) d
 
--- ---- one call
 pub data Call : Type 0 where
-  put : RoundBitWord → Call
-  handOut empty : Call
+  put : RoundBitWord → Call  -- "Put: kept becomes the sum of kept and the word. It hands back no word."
+  handOut : Call  -- "Hand out: returns the cut of kept by d; kept becomes the rest."
+  empty : Call  -- "Empty: returns the kept word whole; kept becomes (0,0)."
 
 pub record Step : Type 0 where  -- what a call answers, and the sum that it leaves; the blank word where it hands back none
   pub outcome : Outcome
@@ -51,9 +48,6 @@ putCheck s w =
     roundBitCheck (s .kept) orElse roundBitCheck w orElse refuse 4 (differ (s .kept .format) (w .format))
     orElse depthCheck (s .kept .format) (s .depth)
 
--- "Put: kept becomes the sum of kept and the word. It hands back no word."
--- "Hand out: returns the cut of kept by d; kept becomes the rest."
--- "Empty: returns the kept word whole; kept becomes (0,0)."
 unfoldable pub stepOf : RunningSum → Call → Step
 stepOf s (put w) = let a = sumOf (s .kept) w in stepped (putCheck s w orElse a .outcome) blank (keeping s (a .word)) s
 stepOf s handOut = stepped (sumCheck s) (cutOf (s .kept) (s .depth) .word) (keeping s (restOf (s .kept) (s .depth) .word)) s

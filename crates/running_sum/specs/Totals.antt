@@ -1,16 +1,22 @@
--- Demand 3: the two totals, from the list of calls and answers and the sum's unit alone.
+-- Demand 3: a list of calls on a running sum, and the two totals, from the calls, their answers and the sum's unit alone.
 use Rattle.integers.specs.Names.{ℕ, _^_, List, [], _∷_, ℤ, pos, negsuc, _+ℤ_, _-ℤ_, _*ℤ_}
 use Rattle.words.specs.{declared.{Outcome.{Outcome, the-variants.{Done, Refused}}, RoundBitWord.RoundBitWord}, RoundBit.roundBitValue}
-use Rattle.running_sum.specs.Steps.{Call, put, handOut, empty}
+use Rattle.running_sum.specs.{declared.RunningSum.RunningSum, Steps.{Call, put, handOut, empty, stepOf}}
 
 pub record Answered : Type 0 where  -- a call and what it answered
   pub call : Call
   pub outcome : Outcome
   pub word : RoundBitWord
 
--- how often a unit of 2 ^ (e + d) counts in units of 2 ^ e. A finer unit is no whole count of them; no done call has a word of one, since
--- a put refuses it by 4 and what is handed out is no finer than what is kept
-abbrev pub coarser : ℤ → ℕ
+unfoldable pub answered : RunningSum → List Call → List Answered  -- what calls answer, "each call being made on the sum that the call before left"
+answered s [] = []
+answered s (c ∷ cs) = let t = stepOf s c in record { call = c; outcome = t .outcome; word = t .word } ∷ answered (t .sum) cs
+
+unfoldable pub left : RunningSum → List Call → RunningSum  -- and the sum that is left
+left s [] = s
+left s (c ∷ cs) = left (stepOf s c .sum) cs
+
+abbrev pub coarser : ℤ → ℕ  -- how often a unit of 2 ^ (e + d) counts in units of 2 ^ e. A finer unit is no whole count; no done call has a word of one
 coarser (pos d) = 2 ^ d
 coarser (negsuc d) = 1
 

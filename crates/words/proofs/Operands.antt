@@ -1,15 +1,17 @@
 -- What the checks of two operands and the refusal 8 tell, and that a done answer passed its check, for every kind of word. Assumes nothing.
-use Prim.Native.Nat.{ℕ, _-_, _^_, _<_}
+use Prim.Native.Nat.{ℕ, _-_, _^_, _<_, _≤_}
 use native.Mathlib.Omega.{arith}
 use mathlib.Core.Path.{_≡_, refl, sym, _∙_}
 use mathlib.Core.Bool.{false}
 use lib.Dec.{eqb}
-use lib.IntN.{ℤ}
+use lib.IntN.{ℤ, pos, _+ℤ_}
 use lib.Signed.{mag}
+use mir.Syntax.{w64}
+use mir.Val.{SFits}
 use borrow.Author.Tests.{not-false, eqb-true, eq-eqb}
 use Rattle.integers.specs.Numbers.{eqZ}
 use Rattle.integers.proofs.Kit.{and-both}
-use Rattle.integers.proofs.Width.{eqZ-same, same-eqZ, fits-size, by-fits}
+use Rattle.integers.proofs.Width.{eqZ-same, same-eqZ, fits-size, by-fits, sum-machine}
 use Rattle.words.specs.Words.{outside}
 use Rattle.words.specs.Refusals.{refuse, _orElse_, wordCheck, differ, after}
 use Rattle.words.specs.Formats.{wider, answerCheck}
@@ -18,7 +20,7 @@ use Rattle.words.specs.declared.Cause.the-variants.{Mismatch, NumberPast
 use Rattle.words.specs.declared.Outcome.{Outcome}
 use Rattle.words.specs.declared.Outcome.the-variants.{Done, Refused}
 use Rattle.words.specs.declared.Format.{Format}
-use Rattle.words.proofs.Laws.{passed, both-passed, three-passed, both-pass, refused-not-done, RightFormat, Right, right, word-right}
+use Rattle.words.proofs.Laws.{passed, both-passed, three-passed, both-pass, refused-not-done, RightFormat, Right, right, word-right, small, machine}
 use Rattle.words.proofs.Formats.{answer-right}
 
 -- ---- operands of one format, both ways
@@ -73,6 +75,19 @@ operands-right f x r g y s e =
 
 pub right-operands : {f : Format} {x : ℤ} {r : ℕ} {g : Format} {y : ℤ} {s : ℕ} → Right f x r → Right g y s → f ≡ g → (wordCheck f x r orElse wordCheck g y s orElse refuse 4 (differ f g)) ≡ Done
 right-operands {g = g} p q e = right-both p q (rw (e, format-same g))
+
+-- ---- the numbers of two operands and a carry add up in an i64
+pub record Sums (x y : ℤ) (t : ℕ) : Type 0 where
+  pub first : SFits w64 x
+  pub second : SFits w64 y
+  pub carry : SFits w64 (pos t)
+  pub two : SFits w64 (x +ℤ y)
+  pub all : SFits w64 (x +ℤ y +ℤ pos t)
+
+pub sums : {f g : Format} {x y : ℤ} {r s : ℕ} (t : ℕ) → Right f x r → Right g y s → t ≤ 1 → Sums x y t
+sums {x = x} {y = y} t p q h =
+    let s = sum-machine x y t (small p) (small q) h in
+    record { first = machine p; second = machine q; carry = record { sfits = omega arith }; two = s .0; all = s .1 }
 
 -- ---- one operand, and an answer with d digits more
 pub wider-right : (f : Format) (x : ℤ) (r d : ℕ) → (wordCheck f x r orElse answerCheck (wider f d)) ≡ Done → Right f x r × RightFormat (wider f d)

@@ -17,9 +17,8 @@ halfUnitRefused c = record { outcome = Refused c; word = halfUnitWord (pos 0) bl
 abbrev pub halfUnitDone : HalfUnitWord → HalfUnitAnswer
 halfUnitDone w = record { outcome = Done; word = w }
 
--- the refusal, if there is one, and else the answer
 infixr 3 _andThen_
-abbrev pub _andThen_ : Outcome → HalfUnitAnswer → HalfUnitAnswer
+abbrev pub _andThen_ : Outcome → HalfUnitAnswer → HalfUnitAnswer  -- the refusal, if there is one, and else the answer
 o andThen a = after halfUnitRefused o a
 
 unfoldable pub halfUnitFitted : HalfUnitWord → HalfUnitAnswer  -- 8 if the number does not fit its width, and else the word

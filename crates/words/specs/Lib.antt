@@ -1,7 +1,6 @@
 pub mod Words
 pub mod Refusals
 pub mod Formats
-pub mod Buffers
 pub mod Plain
 pub mod RoundBit
 pub mod HalfUnit

@@ -17,9 +17,8 @@ plainRefused c = record { outcome = Refused c; word = plainWord (pos 0) blankFor
 abbrev pub plainDone : PlainWord → PlainAnswer
 plainDone w = record { outcome = Done; word = w }
 
--- the refusal, if there is one, and else the answer
 infixr 3 _andThen_
-abbrev pub _andThen_ : Outcome → PlainAnswer → PlainAnswer
+abbrev pub _andThen_ : Outcome → PlainAnswer → PlainAnswer  -- the refusal, if there is one, and else the answer
 o andThen a = after plainRefused o a
 
 unfoldable pub plainFitted : PlainWord → PlainAnswer  -- 8 if the number does not fit its width, and else the word

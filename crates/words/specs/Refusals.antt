@@ -1,6 +1,6 @@
 -- Document 01, "Refusal numbers": the table, and the rule for several causes.
-use Rattle.integers.specs.Names.{ℕ, _-_, Bool, true, false, not, _&&_, _||_, List, [], _∷_, T, leb, eqb, ℤ, pos, getD, length, eqZ}
-use Rattle.words.specs.{declared.{Cause.{Cause, the-variants.{Width, Unit, Number, Mismatch, Depth, WidthPast, UnitPast, NumberPast, DigitText, Buffer, Mark, Form}}, Outcome.{Outcome, the-variants.{Done, Refused}}, Format.Format}, Words.{badWidth, badUnit, outside, badRoundBit}}
+use Rattle.integers.specs.Names.{ℕ, _-_, Bool, true, false, not, _&&_, _||_, List, [], _∷_, T, leb, eqb, ℤ, pos, getD, length, eqZ, atFront}
+use Rattle.words.specs.{declared.{Cause.{Cause, the-variants.{Width, Unit, Number, Mismatch, Depth, WidthPast, UnitPast, NumberPast, DigitText, Buffer, Mark, Form}}, Outcome.{Outcome, the-variants.{Done, Refused}}, Format.Format, WriteAnswer.WriteAnswer}, Words.{badWidth, badUnit, outside, badRoundBit}}
 
 abbrev pub causeNumber : Cause → ℕ  -- the table's number of each cause
 causeNumber Width = 1  -- "a width is outside 2 to 63 (2 to 32 in a file)"
@@ -21,8 +21,7 @@ numberOf Done = 0
 numberOf (Refused c) = causeNumber c
 
 abbrev pub causes : List Cause  -- the table's rows from the top; `inTable n` says that one of them has the number n, and `cause n` is its cause
-causes =
-    Width ∷ Unit ∷ Number ∷ Mismatch ∷ Depth ∷ WidthPast ∷ UnitPast ∷ NumberPast ∷ DigitText ∷ Buffer ∷ Mark ∷ Form ∷ []
+causes = Width ∷ Unit ∷ Number ∷ Mismatch ∷ Depth ∷ WidthPast ∷ UnitPast ∷ NumberPast ∷ DigitText ∷ Buffer ∷ Mark ∷ Form ∷ []
 
 abbrev pub inTable : ℕ → Bool
 inTable n = leb 1 n && leb n (length causes)
@@ -45,9 +44,8 @@ refuseAt false c = record {}
 abbrev pub refuse : (n : ℕ) → Refuse (inTable n)
 refuse n = refuseAt (inTable n) (cause n)
 
--- "With several causes: .. then .. then ..": the first that is given
 infixr 4 _orElse_
-abbrev pub _orElse_ : Outcome → Outcome → Outcome
+abbrev pub _orElse_ : Outcome → Outcome → Outcome  -- "With several causes: .. then .. then ..": the first that is given
 Done orElse o = o
 Refused c orElse o = Refused c
 
@@ -66,3 +64,11 @@ blankFormat = record { width = 2; unit = pos 0 }
 abbrev pub after : {A : Type 0} → (Cause → A) → Outcome → A → A
 after refused Done answer = answer
 after refused (Refused c) answer = refused c
+
+unfoldable pub lentAfter : {A : Type 0} → Outcome → List A → List A → List A  -- "Only the named places are written", the first ones; at a refusal "lent buffers .. stay as they were"
+lentAfter Done new old = atFront new old
+lentAfter (Refused c) new old = old
+
+unfoldable pub writeAnswer : Outcome → ℕ → WriteAnswer  -- "Writing a digit text or a file answers the count of bytes written, 0 when refused."
+writeAnswer Done n = record { outcome = Done; count = n }
+writeAnswer (Refused c) n = record { outcome = Refused c; count = 0 }

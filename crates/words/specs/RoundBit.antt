@@ -17,9 +17,8 @@ roundBitRefused c = record { outcome = Refused c; word = roundBitWord (pos 0) 0 
 abbrev pub roundBitDone : RoundBitWord → RoundBitAnswer
 roundBitDone w = record { outcome = Done; word = w }
 
--- the refusal, if there is one, and else the answer
 infixr 3 _andThen_
-abbrev pub _andThen_ : Outcome → RoundBitAnswer → RoundBitAnswer
+abbrev pub _andThen_ : Outcome → RoundBitAnswer → RoundBitAnswer  -- the refusal, if there is one, and else the answer
 o andThen a = after roundBitRefused o a
 
 unfoldable pub roundBitFitted : RoundBitWord → RoundBitAnswer  -- 8 if the number does not fit its width, and else the word

@@ -17,9 +17,7 @@ outside f x = not (fitsWidth x (f .width))
 abbrev pub badRoundBit : ℕ → Bool  -- not: "r 0 or 1"
 badRoundBit r = not (leb r 1)
 
--- The values, counted in halves of the word's own unit: "value x units", "value a + r units", "value w + 1/2 units".
--- Plain and half-unit words have no round bit; theirs is not looked at
-unfoldable pub value : Kind → ℤ → ℕ → ℤ
-value plain x r = pos 2 *ℤ x
-value roundBit a r = pos 2 *ℤ (a +ℤ pos r)
-value halfUnit w r = (pos 2 *ℤ w) +ℤ pos 1
+unfoldable pub value : Kind → ℤ → ℕ → ℤ  -- in halves of the word's own unit; only a round-bit word has a round bit
+value plain x r = pos 2 *ℤ x  -- "value x units"
+value roundBit a r = pos 2 *ℤ (a +ℤ pos r)  -- "value a + r units"
+value halfUnit w r = (pos 2 *ℤ w) +ℤ pos 1  -- "value w + 1/2 units"

@@ -22,7 +22,7 @@ use Rattle.words.specs.declared.RoundBit.{RoundBit}
 use Rattle.words.specs.declared.RoundBitWord.{RoundBitWord}
 use Rattle.words.proofs.Laws.{RightRoundBit, round-bit-right}
 use Rattle.words.proofs.Formats.{digits-left}
-use Rattle.round_bit.specs.Cuts.{signChanged, signChangeWord, cutWord, cutOf, widenWord, widenOf}
+use Rattle.round_bit.specs.Cuts.{signChanged, signChangeWord, cutBy, cutWord, cutOf, widenWord, widenOf}
 use Rattle.round_bit.proofs.Laws.Cuts.{cut-done, cut-tells, cut-format}
 use Rattle.round_bit.proofs.Laws.Widenings.{widen-done, widen-tells, widen-cut-word}
 use Rattle.digit_text.specs.Digits.{plus, none, minus, signedDigit, byteOf, byteAt, text, textValue}
@@ -74,7 +74,7 @@ text-good w h = rw (text-is w) (steps-no-fault (digits-steps (w .number) h (w .f
 
 -- ---- rounding is cutting digits off: the digits of the cut word are those from d on, with digit d - 1 below them
 cut-bit : (w : RoundBitWord) (d i : ℕ) → bitBelow (cutWord w d .number) i ≡ bitBelow (w .number) (i + d)
-unfolding cutWord
+unfolding cutBy
 cut-bit w zero i = rw add-zero
 cut-bit w (suc k) zero = rw zero-add
 cut-bit w (suc k) (suc i) = let there : suc i + suc k ≡ suc (suc k + i) = omega arith in rw there (digit-floor (w .number .0) (suc k) i)

@@ -2,9 +2,8 @@ use mathlib.Core.Path.{_≡_, refl, sym, _∙_}
 use lib.ListN.{length}
 use Rattle.words.specs.declared.Outcome.the-variants.{Done}
 use Rattle.integers.proofs.Lists.{over-front}
-use Rattle.words.specs.Buffers.{lentAfter, writeAnswer}
-use Rattle.digit_text.specs.Digits.{text}
-use Rattle.digit_text.specs.Writing.{writeCheck, writeOf, bufferOf}
+use Rattle.words.specs.Refusals.{lentAfter, writeAnswer}
+use Rattle.digit_text.specs.Digits.{text, writeCheck, writeOf, bufferOf}
 use Rattle.digit_text.proofs.Scan.{write-room}
 use borrow.Author.Needs.{needs}
 use Rattle.digit_text.proofs.write.Statement.{statement}

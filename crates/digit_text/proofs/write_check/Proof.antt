@@ -1,4 +1,4 @@
-use Rattle.digit_text.specs.Writing.{writeCheck}
+use Rattle.digit_text.specs.Digits.{writeCheck}
 use borrow.Author.Needs.{needs}
 use Rattle.digit_text.proofs.write_check.Statement.{statement}
 use Rattle.digit_text.proofs.write_check.Tie as tie

@@ -24,7 +24,7 @@ use Rattle.words.proofs.Formats.{narrower-passes, narrower-wider}
 use Rattle.words.proofs.Rights.{cleared-right, doubled-right}
 use Rattle.words.proofs.Operands.{done-passed, wider-right}
 use Rattle.half_unit.specs.Cuts.{cutWord}
-use Rattle.half_unit.specs.Conversions.{fromPlainCheck, fromPlainUpWord, fromPlainUpOf, evenFloor, fromPlainEvenWord, fromPlainEvenOf, toPlainWord, toPlainCheck, toPlainOf, toRoundBitWord, toRoundBitOf, fromRoundBitWord, fromRoundBitCheck, fromRoundBitOf, intervalLow, intervalHigh}
+use Rattle.half_unit.specs.Conversions.{fromPlainCheck, fromPlainUpWord, fromPlainUpOf, evenFloor, fromPlainEvenWord, fromPlainEvenOf, toPlainWord, toPlainCheck, toPlainOf, toRoundBitWord, toRoundBitOf, fromRoundBitWord, fromRoundBitCheck, fromRoundBitOf, interval}
 use Rattle.half_unit.proofs.Laws.Cuts.{floor-moves, answer-closed, cut-word-passes}
 
 -- ---- the two rules agree where a dropped digit is 1; elsewhere the even rule clears the lowest digit
@@ -175,7 +175,7 @@ to-from-plain w e =
     rw (c, plain-passes (toPlainWord w) (plain-word-right w c), narrows, to-plain-back w)
 
 -- ---- from round-bit is the middle of the word's interval: in halves of the new unit the ends count double, so their middle is their sum
-pub from-round-bit-middle : (w : RoundBitWord) → halfUnitValue (fromRoundBitWord w) ≡ intervalLow w +ℤ intervalHigh w
+pub from-round-bit-middle : (w : RoundBitWord) → halfUnitValue (fromRoundBitWord w) ≡ interval w .0 +ℤ interval w .1
 unfolding fromRoundBitWord
 from-round-bit-middle w =
     let record { 0 = a; 1 = r } = w .number in

@@ -19,8 +19,7 @@ use Rattle.words.specs.declared.HalfUnitWord.{HalfUnitWord}
 use Rattle.words.proofs.Laws.{RightFormat, Right, half-unit-passes, half-unit-law}
 use Rattle.words.proofs.Formats.{answer-right, answer-done}
 use Rattle.words.proofs.Operands.{both-right, right-both, operands-right, right-operands, fit-passes, done-passed, done-fits, outcome-kept}
-use Rattle.half_unit.specs.Sums.{sumCheck, sumUpWord, sumUpOf, sumEvenWord, sumEvenOf}
-use Rattle.half_unit.specs.Products.{multiplied, productFormat, productWord, productCheck, productOf}
+use Rattle.half_unit.specs.Arithmetic.{sumCheck, sumUpWord, sumUpOf, sumEvenWord, sumEvenOf, multiplied, productFormat, productWord, productCheck, productOf}
 use Rattle.half_unit.proofs.Laws.Cuts.{answer-closed}
 
 -- ---- what the check of a sum tells, and that it does not look at the order

@@ -9,7 +9,7 @@ use mir.Facts.{toZ-ofZ}
 use Rattle.integers.proofs.Kit.{ints, plus-law, times-law, size-law}
 use Rattle.integers.proofs.Width.{times-bound}
 use Rattle.integers.proofs.Halves.{half-product-is, half-product-mag}
-use Rattle.half_unit.specs.Products.{multiplied}
+use Rattle.half_unit.specs.Arithmetic.{multiplied}
 use Rattle.half_unit.proofs.multiplied.Statement.{statement}
 use Rattle.half_unit.proofs.multiplied.Tie as tie
 

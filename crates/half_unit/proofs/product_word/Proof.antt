@@ -9,7 +9,7 @@ use Rattle.words.specs.declared.Outcome.the-variants.{Done}
 use Rattle.words.specs.declared.HalfUnitWord.{HalfUnitWord}
 use Rattle.words.proofs.Laws.{half-unit-right, machine}
 use Rattle.words.proofs.Formats.{answer-format, answer-right}
-use Rattle.half_unit.specs.Products.{productFormat, productCheck, productWord}
+use Rattle.half_unit.specs.Arithmetic.{productFormat, productCheck, productWord}
 use Rattle.half_unit.proofs.Checks.{product-passed}
 use borrow.Author.Needs.{needs}
 use Rattle.half_unit.proofs.product_word.Statement.{statement}

@@ -2,7 +2,7 @@ use borrow.Author.Needs.{needs}
 use mir.Syntax.{w64}
 use mir.Val.{SFits}
 use mir.Facts.{toZ-ofZ}
-use Rattle.half_unit.specs.Sums.{sumEvenWord}
+use Rattle.half_unit.specs.Arithmetic.{sumEvenWord}
 use borrow.Author.Needs.{needs}
 use Rattle.half_unit.proofs.sum_even_word.Statement.{statement}
 use Rattle.half_unit.proofs.sum_even_word.Tie as tie

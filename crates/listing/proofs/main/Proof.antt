@@ -7,8 +7,7 @@ use lib.Dec.{ltb}
 use lib.ListN.{length}
 use lib.Seq.{length-take-le}
 use borrow.Author.Tests.{ltb-false}
-use Rattle.words.specs.Buffers.{writeAnswer}
-use Rattle.words.specs.Refusals.{refuseFor}
+use Rattle.words.specs.Refusals.{writeAnswer, refuseFor}
 use Rattle.words.specs.declared.Cause.the-variants.{Buffer}
 use Rattle.words.specs.declared.WriteAnswer.{WriteAnswer}
 use Rattle.listing_text.specs.Listing.{listing, roomCheck, listOf}

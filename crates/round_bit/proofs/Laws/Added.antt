@@ -9,7 +9,7 @@ use Rattle.integers.proofs.Kit.{ints, plus-law}
 use Rattle.integers.proofs.Floor.{turned-law}
 use Rattle.words.specs.declared.RoundBit.{RoundBit}
 use Rattle.round_bit.specs.Cuts.{signChanged}
-use Rattle.round_bit.specs.Sums.{added}
+use Rattle.round_bit.specs.Arithmetic.{added}
 use Rattle.round_bit.proofs.Laws.Signs.{signs-value}
 
 -- the values add: (ra or rb) and (ra and rb) are ra + rb

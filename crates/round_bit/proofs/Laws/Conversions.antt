@@ -19,7 +19,7 @@ use Rattle.words.specs.declared.PlainWord.{PlainWord}
 use Rattle.words.specs.declared.RoundBitWord.{RoundBitWord}
 use Rattle.words.proofs.Laws.{right, word-right}
 use Rattle.words.proofs.Operands.{fit-passes, done-fits}
-use Rattle.round_bit.specs.Conversions.{toPlainWord, toPlainOf, fromPlainWord, fromPlainOf}
+use Rattle.round_bit.specs.Arithmetic.{toPlainWord, toPlainOf, fromPlainWord, fromPlainOf}
 use Rattle.round_bit.proofs.Checks.{word-done}
 
 -- ---- closed: the word of a done answer passes its own check

@@ -19,7 +19,7 @@ use Rattle.words.specs.declared.RoundBitWord.{RoundBitWord}
 use Rattle.words.proofs.Laws.{both-pass, RightRoundBit, round-bit-right, round-bit-passes, round-bit-law}
 use Rattle.words.proofs.Formats.{narrower-none, narrower-passes, narrower-first, narrower-then, narrower-narrower}
 use Rattle.words.proofs.Rights.{nothing-right, floor-right, low-right}
-use Rattle.round_bit.specs.Cuts.{signChangeWord, cutWord, cutCheck, cutAnswer, cutOf, restWord, restOf}
+use Rattle.round_bit.specs.Cuts.{signChangeWord, cutBy, cutWord, cutCheck, cutAnswer, cutOf, restWord, restOf}
 use Rattle.round_bit.proofs.Checks.{word-done, word-outcome, cut-passed}
 use Rattle.round_bit.proofs.Laws.Signs.{sign-change-passed}
 
@@ -39,7 +39,7 @@ cut-passes w d g e = both-pass (round-bit-passes w g) e
 
 -- ---- closed: the word of a done answer passes its own check
 cut-right : (w : RoundBitWord) (d : ℕ) → cutCheck w d ≡ Done → RightRoundBit (cutWord w d)
-unfolding cutWord
+unfolding cutBy
 cut-right w zero c = cut-tells w zero c .0
 cut-right w (suc k) c = let t = cut-tells w (suc k) c in floor-right (suc k) (digit (w .number .0) k) (t .0) (t .1) (digit-le (w .number .0) k)
 
@@ -56,7 +56,7 @@ rest-closed w d e = let c = rest-done w d e in rw (c .1) (round-bit-passes _ (re
 
 -- ---- the words of a cut and its rest: together they are the old value, and the rest is small, so the cut is near
 rest-adds-back : (w : RoundBitWord) (d : ℕ) → (roundBitValue (cutWord w d) *ℤ pos (2 ^ d)) +ℤ roundBitValue (restWord w d) ≡ roundBitValue w
-unfolding cutWord restWord value
+unfolding cutBy restWord value
 rest-adds-back w zero =
     let v = roundBitValue w in
     omega (ints, times-law v (pos 1), plus-law (v *ℤ pos 1) (value roundBit (pos 0) 0), round-bit-law (pos 0) 0)
@@ -89,14 +89,14 @@ pub cut-value : (w : RoundBitWord) (d : ℕ) → cutOf w d .outcome ≡ Done →
 cut-value w d e = let c = cut-done w d e in rw (c .1) (cut-near w d (cut-tells w d (c .0) .0 .bit))
 
 pub cut-none : (w : RoundBitWord) → roundBitCheck w ≡ Done → cutOf w 0 ≡ cutAnswer (roundBitDone w)
-unfolding cutWord
+unfolding cutBy
 cut-none w e =
     let g = round-bit-right w e in
     rw (cut-passes w 0 g (narrower-passes (w .format) 0 (g .format) (rw (narrower-none (w .format)) (g .format))))
 
 -- the formats of the two words
 pub cut-format : (w : RoundBitWord) (d : ℕ) → cutWord w d .format ≡ narrower (w .format) d
-unfolding cutWord
+unfolding cutBy
 cut-format w zero = sym (narrower-none (w .format))
 cut-format w (suc k) = refl
 
@@ -107,7 +107,7 @@ rest-format w (suc k) = refl
 
 -- a cut after a cut is one cut
 cut-word-twice : (w : RoundBitWord) (a b : ℕ) → cutWord (cutWord w a) b ≡ cutWord w (a + b)
-unfolding cutWord
+unfolding cutBy
 cut-word-twice w zero b = ap (cutWord w) (sym (zero-add b))
 cut-word-twice w (suc j) zero = ap (cutWord w) (sym (add-zero (suc j)))
 cut-word-twice w (suc j) (suc k) =
@@ -131,7 +131,7 @@ unfolding signChangeWord
 cut-sign-check w d e = rw (sign-change-passed w e, e)
 
 cut-sign-word : (w : RoundBitWord) (d : ℕ) → cutWord (signChangeWord w) d ≡ signChangeWord (cutWord w d)
-unfolding cutWord signChangeWord
+unfolding cutBy signChangeWord
 cut-sign-word w zero = refl
 cut-sign-word w (suc k) = rw (floor-turned (w .number .0) (suc k), digit-turned (w .number .0) k)
 

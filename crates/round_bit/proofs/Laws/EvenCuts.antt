@@ -16,7 +16,7 @@ use Rattle.words.specs.declared.Outcome.the-variants.{Done}
 use Rattle.words.specs.declared.RoundBitWord.{RoundBitWord}
 use Rattle.words.proofs.Laws.{RightRoundBit, round-bit-passes, round-bit-law}
 use Rattle.words.proofs.Rights.{floor-right}
-use Rattle.round_bit.specs.Cuts.{cutWord, cutCheck, evenRoundBit, evenCutWord, evenCutOf}
+use Rattle.round_bit.specs.Cuts.{cutBy, cutWord, cutCheck, evenRoundBit, evenCutWord, evenCutOf}
 use Rattle.round_bit.proofs.Checks.{word-done}
 use Rattle.round_bit.proofs.Laws.Cuts.{cut-tells}
 
@@ -26,7 +26,7 @@ even-cut-done w d e = word-done (cutCheck w d) (evenCutWord w d) e
 
 -- ---- closed: the word of a done answer passes its own check
 even-cut-right : (w : RoundBitWord) (d : ℕ) → cutCheck w d ≡ Done → RightRoundBit (evenCutWord w d)
-unfolding evenCutWord evenRoundBit
+unfolding cutBy evenRoundBit
 even-cut-right w zero c = cut-tells w zero c .0
 even-cut-right w (suc k) c =
     let t = cut-tells w (suc k) c in
@@ -51,14 +51,14 @@ still : (v : ℤ) → natAbs ((v *ℤ pos 1) -ℤ v) ≡ 0
 still v = let z = (v *ℤ pos 1) -ℤ v in omega (arith, abs-law z, one-zero z, minus-law (v *ℤ pos 1) v, times-law v (pos 1))
 
 pub even-cut-value : (w : RoundBitWord) (d : ℕ) → evenCutOf w d .outcome ≡ Done → w .number .1 ≡ 0 → natAbs ((roundBitValue (evenCutOf w d .word) *ℤ pos (2 ^ d)) -ℤ roundBitValue w) ≤ 2 ^ d
-unfolding evenCutWord evenRoundBit
+unfolding cutBy evenRoundBit
 even-cut-value w zero e z = rw (even-cut-done w zero e .1) (omega (arith, still (roundBitValue w)))
 even-cut-value w (suc k) e z =
     let a = w .number .0 in
     rw (even-cut-done w (suc k) e .1, z, floor-moves a (evenRoundBit a k) (suc k)) (omega (arith, even-rounds (even-bit a k) .near, pow-succ' 2 k))
 
 pub even-cut-tie : (w : RoundBitWord) (d : ℕ) → evenCutOf w d .outcome ≡ Done → w .number .1 ≡ 0 → natAbs ((roundBitValue (evenCutOf w d .word) *ℤ pos (2 ^ d)) -ℤ roundBitValue w) ≡ 2 ^ d → lowest (evenCutOf w d .word .number .0 +ℤ pos (evenCutOf w d .word .number .1)) ≡ 0
-unfolding evenCutWord evenRoundBit digit
+unfolding cutBy evenRoundBit digit
 even-cut-tie w zero e z t = let none = rw (even-cut-done w zero e .1) at t in absurd (omega (arith, still (roundBitValue w)))
 even-cut-tie w (suc k) e z t =
     let a = w .number .0 in
@@ -68,5 +68,5 @@ even-cut-tie w (suc k) e z t =
 
 -- unless digit d - 1 is 1 and all lower digits are 0 it is the plain cut, of every word
 pub even-cut-plain : (w : RoundBitWord) (k : ℕ) → (digit (w .number .0) k ≡ 1 → anyBelow (w .number .0) k ≡ 0 → ⊥) → evenCutWord w (suc k) ≡ cutWord w (suc k)
-unfolding evenCutWord evenRoundBit cutWord
+unfolding cutBy evenRoundBit
 even-cut-plain w k h = rw (even-plain (even-bit (w .number .0) k) h)

@@ -6,11 +6,12 @@ use mathlib.Core.Bool.{Bool, true, false}
 use lib.Bits.{bitAnd, or-lt, or-add-and, and-le-l, and-le-r, and-comm}
 use lib.IntN.{ℤ, pos, negℤ, _+ℤ_, _*ℤ_, +ℤ-assoc, +ℤ-comm, *ℤ-comm, negℤ-negℤ}
 use lib.Signed.{mag}
+use Rattle.integers.specs.Numbers.{exactlyOne}
 use Rattle.integers.proofs.Times.{plus-times, times-plus, neg-times, times-neg}
 use Rattle.integers.proofs.Width.{product-size}
 use Rattle.words.specs.declared.RoundBit.{RoundBit}
 use Rattle.round_bit.specs.Cuts.{signChanged}
-use Rattle.round_bit.specs.Products.{magnitudeProduct, negative, signChangedIf, magnitude, exactlyOne, multiplied}
+use Rattle.round_bit.specs.Arithmetic.{magnitudeProduct, negative, signChangedIf, magnitude, multiplied}
 use Rattle.round_bit.proofs.Laws.Signs.{signs-value, signs-if-bit, signs-if-size, signs-if-not, signs-if-not-twice, one-not, one-comm, turned-sign, magnitude-is-size}
 
 -- ---- numbers that are not negative (000, Definition 10): the fit, and the value a + r times b + s

@@ -14,7 +14,7 @@ use Rattle.words.proofs.Laws.{Right, word-right, RightFormat}
 use Rattle.words.proofs.Operands.{both-right, right-both}
 use Rattle.words.proofs.Formats.{answer-right, answer-done}
 use Rattle.round_bit.specs.Cuts.{signChanged, signChangeWord, signChangeOf}
-use Rattle.round_bit.specs.Products.{multiplied, productFormat, productWord, productCheck, productOf}
+use Rattle.round_bit.specs.Arithmetic.{multiplied, productFormat, productWord, productCheck, productOf}
 use Rattle.round_bit.proofs.Laws.Signs.{signs-twice, signs-right}
 use Rattle.round_bit.proofs.Checks.{word-done}
 use Rattle.round_bit.proofs.Laws.Multiplied.{multiplied-bit, multiplied-size, multiplied-value, multiplied-comm, multiplied-sign-first, multiplied-sign-second}

@@ -6,7 +6,7 @@ use mathlib.Core.Bool.{Bool, true, false, not}
 use lib.IntN.{ℤ, pos, negsuc, negℤ, _+ℤ_}
 use lib.Signed.{mag, ltZ}
 use borrow.Author.Tests.{le-ltb}
-use Rattle.integers.specs.Numbers.{turned}
+use Rattle.integers.specs.Numbers.{exactlyOne, turned}
 use Rattle.integers.proofs.Kit.{ints, plus-law, neg-law}
 use Rattle.integers.proofs.Floor.{turned-pos, turned-negsuc, turned-law, turned-turned, turned-size}
 use Rattle.words.specs.Words.{value}
@@ -18,8 +18,7 @@ use Rattle.words.specs.declared.RoundBit.{RoundBit}
 use Rattle.words.specs.declared.RoundBitWord.{RoundBitWord}
 use Rattle.words.proofs.Laws.{Right, round-bit-right, round-bit-law, word-right, three-passed}
 use Rattle.round_bit.specs.Cuts.{signChanged, signChangeWord, signChangeOf}
-use Rattle.round_bit.specs.Sums.{sumCheck}
-use Rattle.round_bit.specs.Products.{signChangedIf, magnitude, exactlyOne}
+use Rattle.round_bit.specs.Arithmetic.{sumCheck, signChangedIf, magnitude}
 use Rattle.round_bit.proofs.Checks.{word-done}
 
 -- twice gives the number and the round bit back

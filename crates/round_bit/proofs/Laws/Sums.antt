@@ -19,7 +19,7 @@ use Rattle.words.proofs.Laws.{Right, right, word-right}
 use Rattle.words.proofs.Rights.{nothing-right}
 use Rattle.words.proofs.Operands.{operands-right, right-operands, fit-passes, done-fits}
 use Rattle.round_bit.specs.Cuts.{signChangeWord}
-use Rattle.round_bit.specs.Sums.{added, sumWord, sumCheck, sumOf, differenceOf}
+use Rattle.round_bit.specs.Arithmetic.{added, sumWord, sumCheck, sumOf, differenceOf}
 use Rattle.round_bit.proofs.Laws.Signs.{signs-value}
 use Rattle.round_bit.proofs.Laws.Added.{added-value, added-bit, added-comm, added-counts, added-signs, added-self}
 

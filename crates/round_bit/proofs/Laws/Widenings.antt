@@ -14,7 +14,7 @@ use Rattle.words.proofs.Laws.{RightFormat, RightRoundBit, round-bit-passes, rou
 use Rattle.words.proofs.Formats.{narrower-none, narrower-passes, narrower-wider}
 use Rattle.words.proofs.Rights.{widened-right}
 use Rattle.words.proofs.Operands.{wider-right}
-use Rattle.round_bit.specs.Cuts.{cutWord, cutAnswer, cutOf, widenWord, widenCheck, widenOf}
+use Rattle.round_bit.specs.Cuts.{cutBy, cutWord, cutAnswer, cutOf, widenWord, widenCheck, widenOf}
 use Rattle.round_bit.proofs.Checks.{word-done}
 use Rattle.round_bit.proofs.Laws.Cuts.{cut-passes}
 
@@ -46,7 +46,7 @@ widen-value w d =
     omega (ints, round-bit-law (x +ℤ p) r, plus-law x p, times-law a (pos (2 ^ d)), times-law (roundBitValue w) (pos (2 ^ d)))
 
 pub widen-cut-word : (w : RoundBitWord) (d : ℕ) → w .number .1 ≤ 1 → cutWord (widenWord w d) d ≡ w
-unfolding cutWord widenWord
+unfolding cutBy widenWord
 widen-cut-word w zero h =
     let same : wider (w .format) 0 ≡ w .format = sym (narrower-none (wider (w .format) 0)) ∙ narrower-wider (w .format) 0 in
     rw (sym (floor-none _) ∙ floor-widened (w .number .0) (w .number .1) 0 h, same)

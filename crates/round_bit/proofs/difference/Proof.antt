@@ -1,5 +1,5 @@
 use mathlib.Core.Path.{_≡_, sym, _∙_}
-use Rattle.round_bit.specs.Sums.{sumCheck}
+use Rattle.round_bit.specs.Arithmetic.{sumCheck}
 use Rattle.words.proofs.Arms.{arms}
 use Rattle.words.specs.declared.Outcome.the-variants.{Done}
 use Rattle.round_bit.proofs.Checks.{sum-passed}

@@ -2,7 +2,7 @@ use borrow.Author.Needs.{needs}
 use mir.Syntax.{w64}
 use mir.Val.{SFits}
 use mir.Facts.{toZ-ofZ}
-use Rattle.round_bit.specs.Conversions.{fromPlainWord}
+use Rattle.round_bit.specs.Arithmetic.{fromPlainWord}
 use Rattle.round_bit.proofs.from_plain_word.Statement.{statement}
 use Rattle.round_bit.proofs.from_plain_word.Tie as tie
 

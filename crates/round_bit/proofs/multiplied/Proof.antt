@@ -4,7 +4,7 @@ use mir.Val.{SFits}
 use mir.Facts.{toZ-ofZ}
 use native.Mathlib.Omega.{arith}
 use lib.Bits.{and-le-l}
-use Rattle.round_bit.specs.Products.{magnitude, magnitudeProduct, multiplied}
+use Rattle.round_bit.specs.Arithmetic.{magnitude, magnitudeProduct, multiplied}
 use Rattle.round_bit.proofs.Magnitudes.{magnitude-right, exactly-one}
 use borrow.Author.Needs.{needs}
 use Rattle.round_bit.proofs.multiplied.Statement.{statement}

@@ -1,5 +1,5 @@
 use Rattle.words.proofs.Formats.{answer-format}
-use Rattle.round_bit.specs.Products.{productWord}
+use Rattle.round_bit.specs.Arithmetic.{productWord}
 use Rattle.round_bit.proofs.Checks.{product-passed}
 use Rattle.round_bit.proofs.Magnitudes.{product-room}
 use Rattle.words.proofs.Laws.{round-bit-right}

@@ -10,7 +10,7 @@ use Rattle.words.specs.declared.RoundBitWord.{RoundBitWord}
 use Rattle.words.specs.declared.Outcome.the-variants.{Done}
 use Rattle.words.specs.RoundBit.{roundBitCheck}
 use Rattle.words.proofs.Laws.{round-bit-right, small, machine}
-use Rattle.round_bit.specs.Conversions.{toPlainWord}
+use Rattle.round_bit.specs.Arithmetic.{toPlainWord}
 use borrow.Author.Needs.{needs}
 use Rattle.round_bit.proofs.to_plain_word.Statement.{statement}
 use Rattle.round_bit.proofs.to_plain_word.Tie as tie
