@@ -6,7 +6,7 @@ use Rattle.digit_text.specs.{declared.ReadAnswer.ReadAnswer, Digits.{plu
 abbrev pub strange : ℕ → Bool  -- a byte "that is not `+`, `0` or `-`"
 strange b = not (eqb b plus || eqb b none || eqb b minus)
 
-unfoldable pub goodAt : List ℕ → ℕ → Bool  -- nor the later of "two nonzero digits of one sign with nothing or only zeros between them": it repeats the sign before it
+unfoldable pub goodAt : List ℕ → ℕ → Bool  -- no strange byte, and not the later of "two nonzero digits of one sign with nothing or only zeros between them", which repeats the sign before it
 goodAt t k = let b = getD t k none in not (strange b || (not (eqb b none) && eqb b (signBefore t k)))
 
 unfoldable pub firstFault : List ℕ → ℕ  -- the place of the first fault from the start, or the length where there is none

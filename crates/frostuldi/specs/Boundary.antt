@@ -1,4 +1,4 @@
--- The C boundary: how a flat word is read, and how an answer is laid flat. An outcome is its number in document 01's table.
+-- The C boundary: how a flat word is read, and how an answer is laid flat. An outcome is its number in document 01's table, 0 for done.
 use Rattle.words.specs.{declared.{Outcome.Outcome, PlainWord.PlainWord, RoundBitWord.RoundBitWord, HalfUnitWord.HalfUnitWord, WriteAnswer.WriteAnswer}, Refusals.numberOf, Formats.format, Plain.plainWord, RoundBit.roundBitWord, HalfUnit.halfUnitWord}
 use Rattle.running_sum.specs.declared.RunningSum.{RunningSum}
 use Rattle.block_file.specs.declared.ReadAnswer.{ReadAnswer}

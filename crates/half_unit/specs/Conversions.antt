@@ -21,10 +21,10 @@ fromPlainEvenWord w d = halfUnitWord (evenFloor (w .number .0) d) (narrower (w .
 abbrev pub fromPlainEvenOf : PlainWord → ℕ → HalfUnitAnswer
 fromPlainEvenOf w d = fromPlainCheck w d andThen halfUnitDone (fromPlainEvenWord w d)
 
-unfoldable pub toPlainWord : HalfUnitWord → PlainWord  -- "To plain: 2w+1, width n+1, unit e-1, exact." 1, 2, 3, then 6, then 7
+unfoldable pub toPlainWord : HalfUnitWord → PlainWord  -- "To plain: 2w+1, width n+1, unit e-1, exact."
 toPlainWord w = plainWord ((pos 2 *ℤ w .number .0) +ℤ pos 1) (wider (w .format) 1)
 
-abbrev pub toPlainCheck : HalfUnitWord → Outcome
+abbrev pub toPlainCheck : HalfUnitWord → Outcome  -- 1, 2, 3, then 6, then 7
 toPlainCheck w = halfUnitCheck w orElse answerCheck (wider (w .format) 1)
 
 abbrev pub toPlainOf : HalfUnitWord → PlainAnswer
@@ -36,10 +36,10 @@ toRoundBitWord w = roundBitWord (toPlainWord w .number .0) 0 (toPlainWord w .for
 abbrev pub toRoundBitOf : HalfUnitWord → RoundBitAnswer
 toRoundBitOf w = toPlainCheck w andThenRoundBit roundBitDone (toRoundBitWord w)
 
-unfoldable pub fromRoundBitWord : RoundBitWord → HalfUnitWord  -- "From round-bit: 2a+r, width n+1, unit e-1, the middle of the word's interval" 1, 2, 3, then 6, then 7
+unfoldable pub fromRoundBitWord : RoundBitWord → HalfUnitWord  -- "From round-bit: 2a+r, width n+1, unit e-1, the middle of the word's interval .."
 fromRoundBitWord w = halfUnitWord ((pos 2 *ℤ w .number .0) +ℤ pos (w .number .1)) (wider (w .format) 1)
 
-abbrev pub fromRoundBitCheck : RoundBitWord → Outcome
+abbrev pub fromRoundBitCheck : RoundBitWord → Outcome  -- 1, 2, 3, then 6, then 7
 fromRoundBitCheck w = roundBitCheck w orElse answerCheck (wider (w .format) 1)
 
 abbrev pub fromRoundBitOf : RoundBitWord → HalfUnitAnswer

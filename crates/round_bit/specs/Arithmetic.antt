@@ -4,10 +4,10 @@ use Rattle.words.specs.declared.{Outcome.Outcome, Format.Format, PlainWord.Plai
 use Rattle.words.specs.{Refusals.{refuse, _orElse_, differ}, Formats.{format, unitsMultiplied, answerCheck}, Plain.{plainWord, plainCheck, plainFitted, _andThen_ as _andThenPlain_}, RoundBit.{roundBitWord, roundBitCheck, roundBitDone, roundBitFitted, _andThen_}}
 use Rattle.round_bit.specs.Cuts.{signChanged, signChangeWord}
 
-abbrev pub added : RoundBit → RoundBit → RoundBit  -- "Sum: (a + b + (ra and rb), ra or rb) in the common width"
+abbrev pub added : RoundBit → RoundBit → RoundBit  -- "Sum: (a + b + (ra and rb), ra or rb)"
 added m n = record { 0 = (m .0 +ℤ n .0) +ℤ pos (bitAnd (m .1) (n .1)); 1 = bitOr (m .1) (n .1) }
 
-unfoldable pub sumWord : RoundBitWord → RoundBitWord → RoundBitWord
+unfoldable pub sumWord : RoundBitWord → RoundBitWord → RoundBitWord  -- "in the common width"
 sumWord x y = record { number = added (x .number) (y .number); format = x .format }
 
 abbrev pub sumCheck : RoundBitWord → RoundBitWord → Outcome  -- 1, 2, 3 of the first, 1, 2, 3 of the second, then 4
@@ -47,10 +47,10 @@ productCheck x y = roundBitCheck x orElse roundBitCheck y orElse answerCheck (pr
 abbrev pub productOf : RoundBitWord → RoundBitWord → RoundBitAnswer
 productOf x y = productCheck x y andThen roundBitDone (productWord x y)
 
-unfoldable pub toPlainWord : RoundBitWord → PlainWord  -- "To plain: number a + r, same width and unit; 8 if that is 2^(n-1)."
+unfoldable pub toPlainWord : RoundBitWord → PlainWord  -- "To plain: number a + r, same width and unit;"
 toPlainWord w = plainWord (w .number .0 +ℤ pos (w .number .1)) (w .format)
 
-abbrev pub toPlainOf : RoundBitWord → PlainAnswer
+abbrev pub toPlainOf : RoundBitWord → PlainAnswer  -- "8 if that is 2^(n-1)."
 toPlainOf w = roundBitCheck w andThenPlain plainFitted (toPlainWord w)
 
 unfoldable pub fromPlainWord : PlainWord → RoundBitWord  -- "From plain: (x, 0)."

@@ -28,11 +28,11 @@ cutAnswer a = record { outcome = a .outcome; word = a .word }
 abbrev pub cutOf : RoundBitWord → ℕ → CutAnswer
 cutOf w d = cutAnswer (cutCheck w d andThen roundBitDone (cutWord w d))
 
-unfoldable pub restWord : RoundBitWord → ℕ → RoundBitWord  -- "Rest of a cut, refused as the cut is: a round-bit word of the old width and unit."
+unfoldable pub restWord : RoundBitWord → ℕ → RoundBitWord  -- "Rest of a cut, ..: a round-bit word of the old width and unit."
 restWord w zero = roundBitWord (pos 0) 0 (w .format)  -- "For d = 0 it is (0,0)."
 restWord w (suc k) = roundBitWord (lowDigits (w .number .0) (suc k)) (w .number .1) (w .format)  -- "the low d digits read as two's complement, its round bit the old r."
 
-abbrev pub restOf : RoundBitWord → ℕ → RoundBitAnswer
+abbrev pub restOf : RoundBitWord → ℕ → RoundBitAnswer  -- "refused as the cut is"
 restOf w d = cutCheck w d andThen roundBitDone (restWord w d)
 
 unfoldable pub evenRoundBit : ℤ → ℕ → ℕ  -- "the new round bit is (T or b) and h, where h is digit d-1 of a, b is digit d, and T is 1 if any digit below d-1 is 1", for d = k + 1

@@ -1,4 +1,4 @@
--- Demand 3, of the sum that an opening gave, done or refused, and of any calls on it. In half units of the sum, half a coarse unit is 2 ^ depth.
+-- Demand 3 of the README, of the sum that an opening gave, done or refused, and of any calls on it. In half units of the sum, half a coarse unit is 2 ^ depth.
 use Rattle.integers.specs.Names.{ℕ, _^_, _≤_, _≡_, List, [], _∷_, _++_, ℤ, natAbs, _+ℤ_, _-ℤ_}
 use Rattle.words.specs.{declared.Outcome.the-variants.Done, RoundBit.roundBitValue}
 use Rattle.running_sum.specs.{declared.RunningSum.RunningSum, Steps.{openOf, Call, handOut, empty, stepOf}, Totals.{answered, left, accepted, handedOut}}

@@ -43,7 +43,7 @@ stepped (Refused c) w new old = record { outcome = Refused c; word = blank; sum 
 abbrev pub sumCheck : RunningSum → Outcome  -- the sum "is the first operand, refused by 1, 2, 3 for its kept word and by 5 and 7 for its depth"
 sumCheck s = roundBitCheck (s .kept) orElse depthCheck (s .kept .format) (s .depth)
 
-unfoldable pub putCheck : RunningSum → RoundBitWord → Outcome  -- "Put may also refuse 1, 2, 3 of the word, 4 and 8": after the sum's 1, 2, 3 those of the word, then the lowest of 4, 5, 7 and 8
+unfoldable pub putCheck : RunningSum → RoundBitWord → Outcome  -- "Put may also refuse 1, 2, 3 of the word, 4 and 8": after the sum's 1, 2, 3 those of the word, then the lowest of 4, 5 and 7; 8 comes last, in `stepOf`
 putCheck s w =
     roundBitCheck (s .kept) orElse roundBitCheck w orElse refuse 4 (differ (s .kept .format) (w .format))
     orElse depthCheck (s .kept .format) (s .depth)

@@ -140,23 +140,34 @@ fn keeping(s: RunningSum, w: RoundBitWord) -> RunningSum
 }
 
 impl RunningSum {
-    // Put: kept becomes the sum of kept and the word.
+    // Put: kept becomes the sum of kept and the word. A good depth leaves the sum's own causes; under a bad one no put is
+    // done, and the sum's 8 comes too late to be told.
     pub fn put(mut self, word: RoundBitWord) -> PutAnswer
         ensures { λ r. ⌜ r ≡ putAnswer (stepOf self (put word)) ⌝ }
     {
-        let a = round_bit::sum(self.kept, word);
-        let fit = a.outcome;
-        let o = words::or_else(put_check(self, word), fit);
-        match o {
-            Outcome::Refused(c) => PutAnswer {
-                outcome: Outcome::Refused(c),
-                sum: self,
-            },
-            Outcome::Done => {
-                self = keeping(self, a.word);
+        match depth_check(self.kept.format, self.depth) {
+            Outcome::Refused(c) => {
+                let o = put_check(self, word);
                 PutAnswer {
-                    outcome: Outcome::Done,
+                    outcome: o,
                     sum: self,
+                }
+            }
+            Outcome::Done => {
+                let a = round_bit::sum(self.kept, word);
+                let fit = a.outcome;
+                match fit {
+                    Outcome::Refused(c) => PutAnswer {
+                        outcome: Outcome::Refused(c),
+                        sum: self,
+                    },
+                    Outcome::Done => {
+                        self = keeping(self, a.word);
+                        PutAnswer {
+                            outcome: Outcome::Done,
+                            sum: self,
+                        }
+                    }
                 }
             }
         }

@@ -1,4 +1,4 @@
--- Half-unit words: "Half-unit word w: value w + 1/2 units."
+-- Half-unit words: "Half-unit word w: value w + 1/2 units .."
 use Rattle.integers.specs.Names.{ℤ, pos}
 use Rattle.words.specs.{declared.{Cause.Cause, Outcome.{Outcome, the-variants.{Done, Refused}}, Format.Format, HalfUnitWord.HalfUnitWord, HalfUnitAnswer.HalfUnitAnswer}, Words.{value, outside, Kind.halfUnit}, Refusals.{refuse, wordCheck, blankFormat, after}}
 

@@ -49,10 +49,10 @@ abbrev pub _orElse_ : Outcome → Outcome → Outcome  -- "With several causes: 
 Done orElse o = o
 Refused c orElse o = Refused c
 
-unfoldable pub formatCheck : Format → Outcome  -- 1 and 2 of a width and a unit, then 3 of a number and a round bit in them; done where there is none
+unfoldable pub formatCheck : Format → Outcome  -- 1 and 2 of a width and a unit; done where there is none
 formatCheck f = refuse 1 (badWidth (f .width)) orElse refuse 2 (badUnit (f .unit))
 
-unfoldable pub wordCheck : Format → ℤ → ℕ → Outcome
+unfoldable pub wordCheck : Format → ℤ → ℕ → Outcome  -- then 3 of a number and a round bit in them
 wordCheck f x r = formatCheck f orElse refuse 3 (outside f x || badRoundBit r)
 
 abbrev pub differ : Format → Format → Bool  -- 4 is for operands, or a word and its running sum, that "differ in width or unit"

@@ -1,4 +1,4 @@
--- Round-bit words: "Round-bit word (a, r), r 0 or 1: value a + r units."
+-- Round-bit words: "Round-bit word (a, r), r 0 or 1: value a + r units .."
 use Rattle.integers.specs.Names.{ℕ, ℤ, pos}
 use Rattle.words.specs.{declared.{Cause.Cause, Outcome.{Outcome, the-variants.{Done, Refused}}, Format.Format, RoundBitWord.RoundBitWord, RoundBitAnswer.RoundBitAnswer}, Words.{value, outside, Kind.roundBit}, Refusals.{refuse, wordCheck, blankFormat, after}}
 

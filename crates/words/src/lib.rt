@@ -251,18 +251,15 @@ pub fn wider(f: Format, d: u64) -> FormatAnswer
     }
 }
 
-// What is left of n digits when d are cut off.
-fn remaining(n: u32, d: u64) -> u64
-    ensures { λ r. ⌜ r ≡ n - d ⌝ }
-{
-    if (n as u64) < d { 0 } else { (n as u64) - d }
-}
-
 // d digits fewer on the right: the unit is coarser by 2^d.
 pub fn narrower(f: Format, d: u64) -> FormatAnswer
     ensures { λ r. ⌜ r ≡ formatAnswer (narrowerCheck f d) (narrower f d) ⌝ }
 {
-    let n = remaining(f.width, d);
+    let width = f.width as u64;
+    if width < d {
+        return format_refused(Cause::Depth);
+    }
+    let n = width - d;
     if n < 2 {
         format_refused(Cause::Depth)
     } else {

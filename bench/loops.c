@@ -1,0 +1,79 @@
+/* Every measured loop, written once and compiled once for each peer: WHO answers the calls, NAME is what the peer is
+ * called here, and with INLINED the C peer's text stands in the loop's own file. */
+#include "work.h"
+
+#ifdef INLINED
+#define PEER static inline
+#include "peer.c"
+#include "peer_file.c"
+#else
+#include "calls.h"
+DECLARE(WHO);
+#endif
+
+#define CALL(operation) JOIN(WHO, operation)
+
+static void sum(const struct work *w, struct answers *a)
+{
+    for (int i = 0; i < w->words; i++)
+        a->words[i] = CALL(round_bit_sum)(w->first[i], w->second[i]);
+}
+
+static void cut_by_depth(const struct work *w, struct answers *a)
+{
+    for (int i = 0; i < w->words; i++)
+        a->words[i] = CALL(round_bit_cut)(w->first[i], w->depths[i]);
+}
+
+static void product(const struct work *w, struct answers *a)
+{
+    for (int i = 0; i < w->words; i++)
+        a->words[i] = CALL(round_bit_product)(w->first[i], w->second[i]);
+}
+
+static void put_hand_out(const struct work *w, struct answers *a)
+{
+    frost_running_sum s = CALL(running_sum_open)(w->sum_width, w->sum_unit, w->sum_depth).sum;
+    for (int i = 0; i < w->words; i++) {
+        frost_sum_answer in = CALL(running_sum_put)(s, w->samples[i]);
+        frost_sum_answer out = CALL(running_sum_hand_out)(in.sum);
+        a->words[i].word = out.word;
+        a->words[i].refusal = in.refusal << 8 | out.refusal;
+        s = out.sum;
+    }
+    a->sums[0] = s;
+}
+
+/* A put and a hand-out on each sum of a list, also on those that no opening made. */
+static void each_sum(const struct work *w, struct answers *a)
+{
+    for (int i = 0; i < w->words; i++) {
+        frost_running_sum s = {w->first[i], w->depths[i]};
+        frost_sum_answer in = CALL(running_sum_put)(s, w->second[i]);
+        frost_sum_answer out = CALL(running_sum_hand_out)(s);
+        a->words[i].word = out.word;
+        a->words[i].refusal = in.refusal << 8 | out.refusal;
+        a->sums[i] = in.sum;
+    }
+}
+
+static void read_file(const struct work *w, struct answers *a)
+{
+    a->head = CALL(file_read)(w->file, w->length, a->numbers, w->numbers_room, a->rounds, w->rounds_room);
+}
+
+static void write_file(const struct work *w, struct answers *a)
+{
+    a->written = CALL(file_write)(w->kind, w->width, w->unit, w->numbers, w->numbers_count, w->rounds,
+                                  w->rounds_count, a->bytes, w->file_room);
+}
+
+static void write_listing(const struct work *w, struct answers *a)
+{
+    a->written = CALL(listing_text)(w->file, w->length, a->bytes, w->text_room);
+}
+
+loop *const NAME[LOOPS] = {
+    [SUM] = sum,        [CUT] = cut_by_depth, [PRODUCT] = product,       [PUT_HAND_OUT] = put_hand_out,
+    [READ] = read_file, [WRITE] = write_file, [LISTING] = write_listing, [EACH_SUM] = each_sum,
+};

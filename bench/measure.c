@@ -1,0 +1,237 @@
+/* Runs the loops of all peers on the same work.
+ *
+ *   measure check       holds the answers of every peer to the library's and prints `ROW PEER PIECES` for each
+ *   measure times       prints `ROW PEER PIECES NANOSECONDS` for each, the best of several, the peers taking turns
+ *   measure ROW PEER N  runs one loop N times, for a counter of instructions
+ *   measure file        writes the file of 8,000 records, for the listing programs
+ */
+#include <stdio.h>
+#include <stdlib.h>
+#include <string.h>
+#include <time.h>
+
+#include "work.h"
+
+enum { TURNS = 21, ODD_WORKS = 1000 };
+
+extern loop *const library[LOOPS], *const call[LOOPS], *const inlined[LOOPS], *const second[LOOPS];
+
+#ifdef FIXMATH
+void fixmath_prepare(const struct work *w);
+loop fixmath_put_hand_out;
+static loop *const fixmath[LOOPS] = {[PUT_HAND_OUT] = fixmath_put_hand_out};
+#endif
+#ifdef SYSTEMC
+void systemc_prepare(const struct work *w);
+loop systemc_put_hand_out;
+static loop *const systemc[LOOPS] = {[PUT_HAND_OUT] = systemc_put_hand_out};
+#endif
+
+/* The first is the one that the others are held to; a peer with rules of its own is only held near. */
+static const struct peer {
+    const char *name;
+    loop *const *loops;
+    int own_rules;
+} peers[] = {
+    {"library", library, 0},
+    {"call", call, 0},
+    {"inlined", inlined, 0},
+    {"second", second, 0},
+#ifdef FIXMATH
+    {"libfixmath", fixmath, 1},
+#endif
+#ifdef SYSTEMC
+    {"sc_fix_fast", systemc, 1},
+#endif
+};
+enum { PEERS = sizeof peers / sizeof *peers };
+
+/* Pieces: the words or records of one repetition. Repetitions: enough for the clock, in each turn. */
+static const struct row {
+    const char *name;
+    int loop;
+    uint32_t pieces;
+    int repetitions;
+} rows[] = {
+    {"sum", SUM, MOST_WORDS, 50},
+    {"cut", CUT, MOST_WORDS, 50},
+    {"product", PRODUCT, MOST_WORDS, 50},
+    {"put-hand-out", PUT_HAND_OUT, MOST_WORDS, 20},
+    {"read", READ, MOST_RECORDS, 100},
+    {"write", WRITE, MOST_RECORDS, 100},
+    {"listing", LISTING, MOST_RECORDS, 5},
+    {"read-1000", READ, 1000, 800},
+    {"write-1000", WRITE, 1000, 800},
+    {"listing-1000", LISTING, 1000, 40},
+};
+enum { ROWS = sizeof rows / sizeof *rows };
+
+static struct work work;
+static struct answers answers[2];
+
+static int same_word(frost_round_bit x, frost_round_bit y)
+{
+    return x.number == y.number && x.round == y.round && x.width == y.width && x.unit == y.unit;
+}
+
+static int same(const struct answers *x, const struct answers *y)
+{
+    for (int i = 0; i < work.words; i++)
+        if (!same_word(x->words[i].word, y->words[i].word) || x->words[i].refusal != y->words[i].refusal ||
+            !same_word(x->sums[i].kept, y->sums[i].kept) || x->sums[i].depth != y->sums[i].depth)
+            return 0;
+    return memcmp(&x->head, &y->head, sizeof x->head) == 0 &&
+           memcmp(x->numbers, y->numbers, sizeof x->numbers) == 0 &&
+           memcmp(x->rounds, y->rounds, sizeof x->rounds) == 0 && x->written.bytes == y->written.bytes &&
+           x->written.refusal == y->written.refusal && memcmp(x->bytes, y->bytes, sizeof x->bytes) == 0;
+}
+
+/* All that was handed out is never further apart than one coarse unit. */
+static int near(const struct answers *x, const struct answers *y)
+{
+    int64_t apart = 0;
+    for (int i = 0; i < work.words; i++) {
+        apart += x->words[i].word.number + x->words[i].word.round - y->words[i].word.number;
+        if (apart < -1 || 1 < apart)
+            return 0;
+    }
+    return 1;
+}
+
+static int refused(const struct answers *a)
+{
+    for (int i = 0; i < work.words; i++)
+        if (a->words[i].refusal != 0)
+            return 1;
+    return a->head.refusal != 0 || a->written.refusal != 0;
+}
+
+static void fail(const char *peer, const char *what)
+{
+    fprintf(stderr, "measure: %s: %s\n", peer, what);
+    exit(1);
+}
+
+/* Leaves the library's answers of one loop in the first place and the peer's in the second. */
+static void answer(int loop, const struct peer *peer)
+{
+    memset(answers, 0, sizeof answers);
+    library[loop](&work, &answers[0]);
+    peer->loops[loop](&work, &answers[1]);
+}
+
+static void check_row(const struct row *row, const struct peer *peer)
+{
+    answer(row->loop, peer);
+    /* A refusal would be quick work. */
+    if (refused(&answers[0]))
+        fail(row->name, "the work is refused");
+    if (!(peer->own_rules ? near : same)(&answers[0], &answers[1]))
+        fail(peer->name, row->name);
+}
+
+/* The same checks as the library: what it refuses, every peer with its rules refuses for the same cause. */
+static void check_odd(void)
+{
+    for (uint64_t seed = 0; seed < ODD_WORKS; seed++) {
+        make_odd_work(&work, seed);
+        for (int p = 1; p < PEERS; p++)
+            for (int loop = 0; loop < LOOPS && !peers[p].own_rules; loop++) {
+                answer(loop, &peers[p]);
+                if (!same(&answers[0], &answers[1]))
+                    fail(peers[p].name, "odd work");
+            }
+    }
+}
+
+static void prepare(const struct row *row)
+{
+    make_work(&work, row->pieces);
+#ifdef FIXMATH
+    fixmath_prepare(&work);
+#endif
+#ifdef SYSTEMC
+    systemc_prepare(&work);
+#endif
+}
+
+static void check_all(void)
+{
+    check_odd();
+    for (int r = 0; r < ROWS; r++) {
+        prepare(&rows[r]);
+        for (int p = 0; p < PEERS; p++)
+            if (peers[p].loops[rows[r].loop] != NULL) {
+                check_row(&rows[r], &peers[p]);
+                printf("%s %s %u\n", rows[r].name, peers[p].name, rows[r].pieces);
+            }
+    }
+}
+
+static double nanoseconds(const struct row *row, loop *run)
+{
+    struct timespec from, to;
+    clock_gettime(CLOCK_MONOTONIC, &from);
+    for (int i = 0; i < row->repetitions; i++)
+        run(&work, answers);
+    clock_gettime(CLOCK_MONOTONIC, &to);
+    return ((double)(to.tv_sec - from.tv_sec) * 1e9 + (double)(to.tv_nsec - from.tv_nsec)) / row->repetitions;
+}
+
+static void print_times(const struct row *row)
+{
+    double best[PEERS] = {0};
+    prepare(row);
+    for (int turn = 0; turn < TURNS; turn++)
+        for (int p = 0; p < PEERS; p++)
+            if (peers[p].loops[row->loop] != NULL) {
+                double taken = nanoseconds(row, peers[p].loops[row->loop]);
+                if (turn == 0 || taken < best[p])
+                    best[p] = taken;
+            }
+    for (int p = 0; p < PEERS; p++)
+        if (peers[p].loops[row->loop] != NULL)
+            printf("%s %s %u %.0f\n", row->name, peers[p].name, row->pieces, best[p]);
+}
+
+static int run(const char *row, const char *peer, int repetitions)
+{
+    for (int r = 0; r < ROWS; r++)
+        for (int p = 0; p < PEERS; p++) {
+            loop *run = peers[p].loops[rows[r].loop];
+            if (strcmp(row, rows[r].name) != 0 || strcmp(peer, peers[p].name) != 0 || run == NULL)
+                continue;
+            prepare(&rows[r]);
+            for (int i = 0; i < repetitions; i++)
+                run(&work, answers);
+            return 0;
+        }
+    fail(peer, row);
+    return 1;
+}
+
+static int write_file(void)
+{
+    make_work(&work, MOST_RECORDS);
+    return fwrite(work.file, 1, work.length, stdout) == work.length ? 0 : 1;
+}
+
+int main(int argc, char **argv)
+{
+    const char *what = argc == 2 ? argv[1] : "";
+    if (argc == 4)
+        return run(argv[1], argv[2], atoi(argv[3]));
+    if (strcmp(what, "file") == 0)
+        return write_file();
+    if (strcmp(what, "check") == 0) {
+        check_all();
+        return 0;
+    }
+    if (strcmp(what, "times") == 0) {
+        for (int r = 0; r < ROWS; r++)
+            print_times(&rows[r]);
+        return 0;
+    }
+    fputs("usage: measure check | times | file | ROW PEER N\n", stderr);
+    return 2;
+}

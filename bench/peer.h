@@ -1,0 +1,23 @@
+/* What both parts of the C peer need. The peer is document 01 once more in plain C, with the same checks in the same
+ * order as the library: peer.c has the words and the running sum, peer_file.c the block file and the listing.
+ *
+ * Compiled by itself each part stands behind the same kind of call as the library. A loop that defines PEER as
+ * `static inline` and includes both texts has the same C without any call. */
+#ifndef PEER_H
+#define PEER_H
+
+#include "calls.h"
+
+#ifndef PEER
+#define PEER
+DECLARE(peer);
+#endif
+
+/* Asked only of a width from 2 to 63. */
+static inline int fits(int64_t number, uint32_t width)
+{
+    uint64_t half = (uint64_t)1 << (width - 1);
+    return (uint64_t)number + half < 2 * half;
+}
+
+#endif

@@ -1,0 +1,75 @@
+#!/usr/bin/env python3
+"""Reads lines `ROW PEER PIECES COST` and prints the table of ratios, library / peer, each aim beside its ratio."""
+import sys
+
+ROWS = {
+    "sum": "sum",
+    "cut": "cut",
+    "product": "product",
+    "put-hand-out": "put + hand-out",
+    "read": "file read, 8,000 records",
+    "write": "file write, 8,000 records",
+    "listing": "listing, 8,000 records",
+    "program": "listing program, 8,000 records",
+}
+PEERS = {"call": "C behind a call", "inlined": "C inlined", "second": "second program"}
+PACKAGES = {"libfixmath": "libfixmath", "sc_fix_fast": "`sc_fix_fast`"}
+GROWING = {"read": "file read", "write": "file write", "listing": "listing"}
+
+# The most that a ratio may be.
+AIMS = {
+    ("put-hand-out", "call"): 1.2,
+    ("put-hand-out", "inlined"): 4,
+    ("put-hand-out", "sc_fix_fast"): 1 / 20,
+    ("read", "call"): 2,
+    ("listing", "call"): 1,
+    ("program", "call"): 1,
+}
+GROWTH_AIM = 1.1
+
+UNITS = {"times": "ns", "instructions": "instructions"}
+
+
+def rated(ratio, aim=None):
+    """The ratio as text, with its aim where it has one."""
+    if aim is None:
+        return f"{ratio:.2f}"
+    return f"{ratio:.2f} (aim {aim:g}{' MISSED' if ratio > aim else ''})"
+
+
+def compared(costs, row, peer):
+    if (row, peer) in costs:
+        return rated(costs[row, "library"] / costs[row, peer], AIMS.get((row, peer)))
+    return "not installed" if row == "put-hand-out" and peer in PACKAGES else ""
+
+
+def growth(costs, row, peer):
+    ratio = costs[row, peer] / costs[f"{row}-1000", peer]
+    return rated(ratio, GROWTH_AIM if peer == "library" else None)
+
+
+def show(head, rows):
+    widths = [max(map(len, column)) for column in zip(head, *rows)]
+    for row in [head, ["-" * width for width in widths], *rows]:
+        print("| " + " | ".join(map(str.ljust, row, widths)) + " |")
+
+
+def main():
+    shown = sys.argv[1]
+    costs = {}
+    for line in sys.stdin:
+        row, peer, pieces, cost = line.split()
+        costs[row, peer] = int(cost) / int(pieces)
+    unit = UNITS[shown]
+    peers = PEERS | PACKAGES
+    print(f"Measured: {shown}. Each ratio is library / peer: under 1 the library is ahead.\n")
+    rows = [[name, f"{costs[row, 'library']:.1f}", *(compared(costs, row, peer) for peer in peers)] for row, name in ROWS.items()]
+    show(["operation", f"library, {unit} a word or record", *peers.values()], rows)
+    print(f"\nGrowth: {unit} of a record among 8,000 / among 1,000. 1 is linear.\n")
+    growing = {"library": "library"} | PEERS
+    rows = [[name, *(growth(costs, row, peer) for peer in growing)] for row, name in GROWING.items()]
+    show(["operation", *growing.values()], rows)
+
+
+if __name__ == "__main__":
+    main()

@@ -1,0 +1,134 @@
+/* The same work in every run: good words whose numbers have every size that their width allows, and odd ones. */
+#include "work.h"
+
+/* splitmix64. */
+static uint64_t next(uint64_t *state)
+{
+    uint64_t z = *state += 0x9E3779B97F4A7C15u;
+    z = (z ^ z >> 30) * 0xBF58476D1CE4E5B9u;
+    z = (z ^ z >> 27) * 0x94D049BB133111EBu;
+    return z ^ z >> 31;
+}
+
+static uint32_t below(uint64_t *state, uint32_t end)
+{
+    return (uint32_t)(next(state) % end);
+}
+
+static int64_t signed_by_chance(uint64_t *state, int64_t magnitude)
+{
+    return next(state) & 1 ? magnitude : -1 - magnitude;
+}
+
+/* A number of at most `digits` digits and a sign; every count of digits is as likely as another. */
+static int64_t number(uint64_t *state, uint32_t digits)
+{
+    uint64_t end = (uint64_t)1 << below(state, digits + 1);
+    return signed_by_chance(state, (int64_t)(next(state) % end));
+}
+
+/* The number is a digit shorter than its width allows, so that two of them add up in it. */
+static frost_round_bit good_word(uint64_t *state, uint32_t width, int32_t unit)
+{
+    frost_round_bit w = {number(state, width - 2), width, unit, 0};
+    w.round = next(state) & 1;
+    return w;
+}
+
+/* Mostly of the given format, or every pair would be refused for that. The number may have a digit too many, and often
+ * lies at the edge of its width. */
+static frost_round_bit odd_word(uint64_t *state, uint32_t width, int32_t unit)
+{
+    if (below(state, 4) == 0) {
+        width = below(state, 66);
+        unit = (int32_t)below(state, 264) - 132;
+    }
+    frost_round_bit w = {number(state, width < 63 ? width : 63), width, unit, 0};
+    if (below(state, 4) == 0 && 1 <= width && width <= 63)
+        w.number = signed_by_chance(state, ((int64_t)1 << (width - 1)) - below(state, 3));
+    w.round = below(state, 16) % 5 % 3;
+    return w;
+}
+
+static void put_bytes(uint8_t *to, uint32_t x)
+{
+    for (int i = 0; i < 4; i++)
+        to[i] = (uint8_t)(x >> 8 * i);
+}
+
+static void make_block(struct work *w, uint64_t *state, uint32_t records)
+{
+    w->kind = 1;
+    w->width = 32;
+    w->unit = -8;
+    w->numbers_count = w->rounds_count = records;
+    const uint8_t front[] = {'R', 'N', 'B', 1, 0, (uint8_t)w->kind, (uint8_t)w->width, (uint8_t)w->unit};
+    for (size_t i = 0; i < sizeof front; i++)
+        w->file[i] = front[i];
+    put_bytes(w->file + 8, records);
+    for (uint32_t k = 0; k < records; k++) {
+        w->numbers[k] = (int32_t)number(state, w->width - 1);
+        w->rounds[k] = next(state) & 1;
+        put_bytes(w->file + 12 + 5 * k, (uint32_t)w->numbers[k]);
+        w->file[12 + 5 * k + 4] = w->rounds[k];
+    }
+    w->length = 12 + 5 * (size_t)records;
+}
+
+/* Widths end at 32 and units at 60, so that no product is refused. */
+void make_work(struct work *w, uint32_t records)
+{
+    uint64_t state = 20260101;
+    w->words = MOST_WORDS;
+    w->sum_width = SUM_WIDTH;
+    w->sum_unit = SUM_UNIT;
+    w->sum_depth = SUM_DEPTH;
+    for (int i = 0; i < w->words; i++) {
+        uint32_t width = 3 + below(&state, 30);
+        int32_t unit = (int32_t)below(&state, 121) - 60;
+        w->first[i] = good_word(&state, width, unit);
+        w->second[i] = good_word(&state, width, unit);
+        w->depths[i] = below(&state, width - 1);
+        w->samples[i] = good_word(&state, SUM_WIDTH, SUM_UNIT);
+    }
+    make_block(w, &state, records);
+    w->numbers_room = w->rounds_room = MOST_RECORDS;
+    w->file_room = LONGEST_FILE_BYTES;
+    w->text_room = LONGEST_TEXT_BYTES;
+}
+
+/* A file with a byte or two changed and perhaps a wrong length, and a block and rooms that do not fit it. */
+static void make_odd_block(struct work *w, uint64_t *state)
+{
+    make_block(w, state, below(state, 4));
+    w->file[below(state, (uint32_t)w->length)] = (uint8_t)(next(state) >> below(state, 8));
+    if (below(state, 2) == 0)
+        w->file[5] = (uint8_t)below(state, 4);
+    if (below(state, 16) == 0)
+        w->file[7] = 0x80;
+    if (below(state, 8) == 0)
+        w->length = below(state, 2 * (uint32_t)w->length);
+    w->kind = below(state, 16) % 5 % 4;
+    w->width = below(state, 2) == 0 ? below(state, 36) : w->width;
+    w->unit = (int32_t)below(state, 264) - 132;
+    w->rounds_count = below(state, 8) == 0 ? 2 : w->numbers_count;
+    w->numbers_room = below(state, 8);
+    w->rounds_room = below(state, 8);
+    w->file_room = below(state, 64);
+    w->text_room = below(state, 128);
+}
+
+void make_odd_work(struct work *w, uint64_t seed)
+{
+    w->words = 16;
+    w->sum_width = below(&seed, 66);
+    w->sum_unit = (int32_t)below(&seed, 264) - 132;
+    w->sum_depth = below(&seed, 1 + w->sum_width);
+    for (int i = 0; i < w->words; i++) {
+        w->first[i] = odd_word(&seed, 2 + below(&seed, 62), 100);
+        w->second[i] = odd_word(&seed, w->first[i].width, w->first[i].unit);
+        w->depths[i] = below(&seed, 8) == 0 ? next(&seed) : below(&seed, 66);
+        w->samples[i] = odd_word(&seed, w->sum_width, w->sum_unit);
+    }
+    make_odd_block(w, &seed);
+}

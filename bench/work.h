@@ -1,0 +1,60 @@
+/* The work that every peer is given, and where it leaves its answers. */
+#ifndef WORK_H
+#define WORK_H
+
+#include "frostuldi.h"
+
+enum {
+    MOST_WORDS = 8000,
+    MOST_RECORDS = 8000,
+    LONGEST_FILE_BYTES = 12 + 5 * MOST_RECORDS,
+    LONGEST_TEXT_BYTES = 248019,
+    /* A running sum that libfixmath has as well: 16 digits before the point and 16 behind it, cut at the point. */
+    SUM_WIDTH = 32,
+    SUM_UNIT = -16,
+    SUM_DEPTH = 16,
+};
+
+/* Formats, depths and rooms stand here and not as constants in the loops: a check that the compiler can decide is not
+ * the same check. */
+struct work {
+    int words;
+    frost_round_bit first[MOST_WORDS], second[MOST_WORDS];
+    uint64_t depths[MOST_WORDS];
+    uint32_t sum_width;
+    int32_t sum_unit;
+    uint64_t sum_depth;
+    frost_round_bit samples[MOST_WORDS];
+    uint32_t kind, width;
+    int32_t unit;
+    size_t numbers_count, rounds_count;
+    int32_t numbers[MOST_RECORDS];
+    uint8_t rounds[MOST_RECORDS];
+    size_t length;
+    uint8_t file[LONGEST_FILE_BYTES];
+    size_t numbers_room, rounds_room, file_room, text_room;
+};
+
+/* What the loops answer; each leaves the places of the others as they were. */
+struct answers {
+    frost_round_bit_answer words[MOST_WORDS];
+    frost_running_sum sums[MOST_WORDS];
+    frost_file_head head;
+    int32_t numbers[MOST_RECORDS];
+    uint8_t rounds[MOST_RECORDS];
+    frost_written written;
+    uint8_t bytes[LONGEST_TEXT_BYTES];
+};
+
+/* The last is only checked, on odd work. */
+enum { SUM, CUT, PRODUCT, PUT_HAND_OUT, READ, WRITE, LISTING, EACH_SUM, LOOPS };
+
+typedef void loop(const struct work *w, struct answers *a);
+
+/* Work that nobody refuses, to be measured. */
+void make_work(struct work *w, uint32_t records);
+
+/* Little work, with every cause to be refused over many seeds, to be checked. */
+void make_odd_work(struct work *w, uint64_t seed);
+
+#endif
