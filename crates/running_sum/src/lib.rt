@@ -122,11 +122,18 @@ fn sum_check(s: RunningSum) -> Outcome
 fn put_check(s: RunningSum, w: RoundBitWord) -> Outcome
     ensures { λ r. ⌜ r ≡ putCheck s w ⌝ }
 {
-    let kept = words::round_bit_check(s.kept);
-    let word = words::round_bit_check(w);
-    let format = words::refuse(Cause::Mismatch, words::differ(s.kept.format, w.format));
-    let depth = depth_check(s.kept.format, s.depth);
-    words::or_else(kept, words::or_else(word, words::or_else(format, depth)))
+    match words::round_bit_check(s.kept) {
+        Outcome::Refused(c) => Outcome::Refused(c),
+        Outcome::Done => match words::round_bit_check(w) {
+            Outcome::Refused(c) => Outcome::Refused(c),
+            Outcome::Done => {
+                match words::refuse(Cause::Mismatch, words::differ(s.kept.format, w.format)) {
+                    Outcome::Refused(c) => Outcome::Refused(c),
+                    Outcome::Done => depth_check(s.kept.format, s.depth),
+                }
+            }
+        },
+    }
 }
 
 fn keeping(s: RunningSum, w: RoundBitWord) -> RunningSum
@@ -140,19 +147,15 @@ fn keeping(s: RunningSum, w: RoundBitWord) -> RunningSum
 }
 
 impl RunningSum {
-    // Put: kept becomes the sum of kept and the word. A good depth leaves the sum's own causes; under a bad one no put is
-    // done, and the sum's 8 comes too late to be told.
+    // Put: kept becomes the sum of kept and the word.
     pub fn put(mut self, word: RoundBitWord) -> PutAnswer
         ensures { λ r. ⌜ r ≡ putAnswer (stepOf self (put word)) ⌝ }
     {
-        match depth_check(self.kept.format, self.depth) {
-            Outcome::Refused(c) => {
-                let o = put_check(self, word);
-                PutAnswer {
-                    outcome: o,
-                    sum: self,
-                }
-            }
+        match put_check(self, word) {
+            Outcome::Refused(c) => PutAnswer {
+                outcome: Outcome::Refused(c),
+                sum: self,
+            },
             Outcome::Done => {
                 let a = round_bit::sum(self.kept, word);
                 let fit = a.outcome;
