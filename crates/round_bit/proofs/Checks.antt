@@ -7,14 +7,14 @@ use mir.Syntax.{w64}
 use mir.Val.{SFits, toZ, ofZ}
 use mir.Facts.{toZ-ofZ}
 use Rattle.integers.specs.Numbers.{floorBy, lowDigits}
-use Rattle.words.specs.Formats.{narrower, narrowerCheck, wider, answerCheck, formatAnswer}
+use Rattle.words.specs.Formats.{narrower, narrowerCheck, wider, answerCheck}
+use Rattle.words.specs.Refusals.{formatCheck}
 use Rattle.words.specs.RoundBit.{roundBitWord, roundBitCheck, roundBitRefused, roundBitDone, _andThen_}
 use Rattle.words.specs.declared.Outcome.{Outcome}
 use Rattle.words.specs.declared.Outcome.the-variants.{Done, Refused}
-use Rattle.words.specs.declared.FormatAnswer.{FormatAnswer}
+use Rattle.words.specs.declared.Format.{Format}
 use Rattle.words.specs.declared.RoundBitWord.{RoundBitWord}
-use Rattle.words.proofs.Laws.{refused-not-done, both-passed, three-passed, round-bit-right, machine}
-use Rattle.words.proofs.Formats.{answer-format}
+use Rattle.words.proofs.Laws.{refused-not-done, both-passed, three-passed, format-right, round-bit-right, machine}
 use Rattle.words.proofs.Operands.{outcome-kept}
 use Rattle.round_bit.specs.Cuts.{cutBy, cutCheck, restWord, widenCheck}
 use Rattle.round_bit.specs.Arithmetic.{sumCheck, productFormat, productCheck}
@@ -43,13 +43,16 @@ product-passed x y e = three-passed (roundBitCheck x) (roundBitCheck y) _ e
 one-less : (k : ℕ) → suc k - 1 ≡ k
 one-less k = omega arith
 
--- the word that the code makes at such a depth: the floor q, the round bit r by a rule, and the format that it was handed
-pub cut-made : (rule : ℤ → ℕ → ℕ) (w : RoundBitWord) (d : ℕ) (q : ℤ) (r : ℕ) (a : FormatAnswer) → (d ≡ 0 → ⊥) → cutCheck w d ≡ Done → a ≡ formatAnswer (narrowerCheck (w .format) d) (narrower (w .format) d) → SFits w64 q → q ≡ floorBy (toZ w64 (ofZ w64 (w .number .0))) d → r ≡ rule (toZ w64 (ofZ w64 (w .number .0))) (d - 1) → roundBitWord (toZ w64 (ofZ w64 q)) r (a .format) ≡ cutBy rule w d
+-- the word that the code makes at such a depth: the floor q, the round bit r by a rule, and the format g
+pub cut-made : (rule : ℤ → ℕ → ℕ) (w : RoundBitWord) (d : ℕ) (q : ℤ) (r : ℕ) (g : Format) → (d ≡ 0 → ⊥) → cutCheck w d ≡ Done → g ≡ narrower (w .format) d → SFits w64 q → q ≡ floorBy (toZ w64 (ofZ w64 (w .number .0))) d → r ≡ rule (toZ w64 (ofZ w64 (w .number .0))) (d - 1) → roundBitWord (toZ w64 (ofZ w64 q)) r g ≡ cutBy rule w d
 unfolding cutBy
-cut-made rule w zero q r a h e f s g b = absurd (h refl)
-cut-made rule w (suc k) q r a h e f s g b =
-    let p = cut-passed w (suc k) e in
-    rw (f, answer-format _ _ (p .1), toZ-ofZ s, g, b, toZ-ofZ (machine (round-bit-right w (p .0))), one-less k)
+cut-made rule w zero q r g h e f s t b = absurd (h refl)
+cut-made rule w (suc k) q r g h e f s t b =
+    rw (f, toZ-ofZ s, t, b, toZ-ofZ (machine (round-bit-right w (cut-passed w (suc k) e .0))), one-less k)
+
+-- what `narrowed` asks of the format
+pub cut-narrows : (w : RoundBitWord) (d : ℕ) → cutCheck w d ≡ Done → (formatCheck (w .format) ≡ Done) × (narrowerCheck (w .format) d ≡ Done)
+cut-narrows w d e = let p = cut-passed w d e in (format-right (w .format) (round-bit-right w (p .0) .format), p .1)
 
 pub rest-some : (w : RoundBitWord) (d : ℕ) → (d ≡ 0 → ⊥) → restWord w d ≡ roundBitWord (lowDigits (w .number .0) d) (w .number .1) (w .format)
 unfolding restWord

@@ -11,7 +11,8 @@ ghost use mathlib.Core.Path.{_≡_};
 ghost use Prim.Native.Nat.{_+_, _-_, _*_, _^_, _<_, _≤_};
 ghost use lib.IntN.{pos, _+ℤ_, _*ℤ_};
 ghost use lib.Signed.{mag, _≤ℤ_};
-ghost use Rattle.words.specs.Formats.{answerCheck, formatAnswer};
+ghost use Rattle.words.specs.Refusals.{formatCheck};
+ghost use Rattle.words.specs.Formats.{narrower, narrowerCheck, answerCheck, formatAnswer};
 ghost use Rattle.words.specs.RoundBit.{roundBitCheck};
 ghost use Rattle.round_bit.specs.Cuts.{signChanged, signChangeWord, signChangeOf, cutCheck, cutWord, cutAnswer, cutOf, restWord, restOf, evenRoundBit, evenCutWord, evenCutAnswer, evenCutOf, widenCheck, widenWord, widenOf};
 ghost use Rattle.round_bit.specs.Arithmetic.{sumCheck, sumWord, sumOf, differenceOf, magnitudeProduct, signChangedIf, multiplied, productFormat, productCheck, productWord, productOf, toPlainWord, toPlainOf, fromPlainWord, fromPlainOf};
@@ -80,6 +81,17 @@ fn cut_check(w: RoundBitWord, d: u64) -> Outcome
     }
 }
 
+// The format of a cut that was not refused.
+fn narrowed(f: Format, d: u64) -> Format
+    requires { ⌜ (formatCheck f ≡ Outcome.Done) × (narrowerCheck f d ≡ Outcome.Done) ⌝ }
+    ensures { λ r. ⌜ r ≡ narrower f d ⌝ }
+{
+    Format {
+        width: f.width - (d as u32),
+        unit: f.unit + (d as i32),
+    }
+}
+
 fn cut_word(w: RoundBitWord, d: u64) -> RoundBitWord
     requires { ⌜ cutCheck w d ≡ Outcome.Done ⌝ }
     ensures { λ r. ⌜ r ≡ cutWord w d ⌝ }
@@ -87,8 +99,7 @@ fn cut_word(w: RoundBitWord, d: u64) -> RoundBitWord
     if d == 0 {
         return w;
     }
-    let a = words::narrower(w.format, d);
-    let f = a.format;
+    let f = narrowed(w.format, d);
     let floor = integers::floor_by(w.number.0, d);
     let high = integers::digit(w.number.0, d - 1);
     RoundBitWord {
@@ -162,8 +173,7 @@ fn even_cut_word(w: RoundBitWord, d: u64) -> RoundBitWord
     if d == 0 {
         return w;
     }
-    let a = words::narrower(w.format, d);
-    let f = a.format;
+    let f = narrowed(w.format, d);
     let number = integers::floor_by(w.number.0, d);
     let even = even_round_bit(w.number.0, d - 1);
     RoundBitWord {
