@@ -256,14 +256,13 @@ pub fn narrower(f: Format, d: u64) -> FormatAnswer
     ensures { λ r. ⌜ r ≡ formatAnswer (narrowerCheck f d) (narrower f d) ⌝ }
 {
     let width = f.width as u64;
-    if width < d {
+    if width < 2 {
         return format_refused(Cause::Depth);
     }
-    let n = width - d;
-    if n < 2 {
+    if width - 2 < d {
         format_refused(Cause::Depth)
     } else {
-        placed(n, (f.unit as i64) + (d as i64))
+        placed(width - d, (f.unit as i64) + (d as i64))
     }
 }
 

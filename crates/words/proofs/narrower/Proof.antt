@@ -1,4 +1,4 @@
-use Prim.Native.Nat.{_-_, _<_, _^_}
+use Prim.Native.Nat.{_-_, _<_, _≤_, _^_}
 use mathlib.Core.Path.{_≡_, _∙_}
 use native.Mathlib.Omega.{arith}
 use lib.IntN.{pos, _+ℤ_}
@@ -18,7 +18,7 @@ module _ (c : tie.After-struct-told) where
   small : c .before .before .before .before .before .args .d < 2 ^ 32
   small =
       let width : Fits w32 (c .before .before .before .before .before .args .f .width) = search needs in
-      omega (arith, width, c .before .before .before .if1 .left)
+      omega (arith, width, c .before .before .if2 .left)
 
   unit : SFits w32 (c .before .before .before .before .before .args .f .unit)
   unit = search needs
@@ -41,13 +41,18 @@ returns c =
 
 returns-2 : tie.Need-returns-2
 unfolding narrowerCheck formatAnswer
-returns-2 c = c .format-refused2 .ensures ∙ rw (lt-ltb _ 2 (c .before .if2 .taken))
+returns-2 c =
+    let a = c .before .before .before .before .args in
+    let few : a .f .width - a .d < 2 = omega (arith, c .before .if2 .taken) in
+    c .format-refused2 .ensures ∙ rw (lt-ltb _ 2 few)
 
 returns-3 : tie.Need-returns-3
 unfolding narrowerCheck
 returns-3 c =
     let b = c .before in
-    c .placed .ensures ∙ rw (le-ltb _ 2 (b .before .before .if2 .left), widened (unit b), depth b, toZ-ofZ (moved b))
+    let a = b .before .before .before .before .before .args in
+    let enough : 2 ≤ a .f .width - a .d = omega (arith, b .before .before .if2 .left, b .before .before .before .if1 .left) in
+    c .placed .ensures ∙ rw (le-ltb _ 2 enough, widened (unit b), depth b, toZ-ofZ (moved b))
 
 pub narrower-spec : {M : Type 1} → statement M
 narrower-spec =
@@ -57,6 +62,7 @@ narrower-spec =
     (λ c κs. search needs)
     returns
     (λ c κs. search needs)
+    (λ c. omega (arith, c .if2 .left))
     (λ c. wide (unit c))
     (λ c. search needs)
     add-placed
