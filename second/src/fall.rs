@@ -65,8 +65,17 @@ pub fn back() {
     LAST.with(|last| last.set(NO_CALL));
 }
 
+/// An emulator may hand over the stack 8 bytes off, and the first aligned store
+/// would fall again. For a local that asks for more than the stack's own
+/// alignment the compiler sets the stack right first.
+#[repr(align(64))]
+struct Aligned(i32);
+
 /// Runs in the thread that fell. The process is lost by now, so it may print.
 extern "C" fn fell(number: i32) {
+    let number = Aligned(number);
+    // Without this read the local would not stand on the stack.
+    let number = unsafe { std::ptr::read_volatile(&number.0) };
     let call = LAST.with(|last| last.get());
     println!(
         "DIFFERENCE in {}: it fell with signal {}",

@@ -27,8 +27,7 @@ mod sums;
 mod tally;
 mod texts;
 
-use std::sync::atomic::{AtomicUsize, Ordering};
-use std::sync::Mutex;
+use std::sync::atomic::Ordering;
 use tally::Record;
 
 const DEFAULT_SEED: u64 = 20_260_101;
@@ -36,11 +35,11 @@ const DEFAULT_SEED: u64 = 20_260_101;
 /// One part of the comparison; each counts as one check.
 pub struct Job {
     name: String,
-    run: Box<dyn Fn(&mut Record) + Send + Sync>,
+    run: Box<dyn Fn(&mut Record)>,
 }
 
 impl Job {
-    pub fn new(name: impl Into<String>, run: impl Fn(&mut Record) + Send + Sync + 'static) -> Job {
+    pub fn new(name: impl Into<String>, run: impl Fn(&mut Record) + 'static) -> Job {
         Job {
             name: name.into(),
             run: Box::new(run),
@@ -50,9 +49,12 @@ impl Job {
 
 fn main() {
     let arguments: Vec<String> = std::env::args().skip(1).collect();
-    let Some((program, seed)) = program_and_seed(&arguments) else {
-        eprintln!("usage: compare LISTING_PROGRAM [SEED]");
-        std::process::exit(2);
+    let (program, seed) = match program_and_seed(&arguments) {
+        Some(both) => both,
+        None => {
+            eprintln!("usage: compare LISTING_PROGRAM [SEED]");
+            std::process::exit(2);
+        }
     };
     println!("seed {}", seed);
     fall::watch();
@@ -106,27 +108,17 @@ fn same_names(record: &mut Record) {
     }
 }
 
-/// Each thread takes the next job until there is none; answers for each job
-/// whether it passed, and what all of them counted.
+/// Answers for each job whether it passed, and what all of them counted. One
+/// after the other: a second thread makes an emulator slower than one alone.
 fn run_all(jobs: &[Job]) -> (Vec<bool>, Record) {
-    let next = AtomicUsize::new(0);
-    let results = Mutex::new((vec![false; jobs.len()], Record::new()));
-    let threads = std::thread::available_parallelism().map_or(2, |cores| cores.get());
-    std::thread::scope(|scope| {
-        for _ in 0..threads {
-            scope.spawn(|| loop {
-                let index = next.fetch_add(1, Ordering::SeqCst);
-                if index >= jobs.len() {
-                    return;
-                }
-                let record = run_one(&jobs[index]);
-                let mut results = results.lock().expect("no thread falls alone");
-                results.0[index] = is_good(&record);
-                results.1.add(&record);
-            });
-        }
-    });
-    results.into_inner().expect("no thread falls alone")
+    let mut results = Vec::new();
+    let mut total = Record::new();
+    for job in jobs {
+        let record = run_one(job);
+        results.push(is_good(&record));
+        total.add(&record);
+    }
+    (results, total)
 }
 
 /// A part that compared nothing has shown nothing.

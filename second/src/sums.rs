@@ -34,8 +34,9 @@ struct List {
 }
 
 fn call_list(random: &mut Random, record: &mut Record) {
-    let Some(mut list) = open(random, record) else {
-        return;
+    let mut list = match open(random, record) {
+        Some(list) => list,
+        None => return,
     };
     // Some lists mostly put, so that sums fill up and refuse; some mostly empty.
     let puts = random.one_of(&[4, 8, 30]);
