@@ -18,6 +18,6 @@ module _ (n : ℕ) (e : ℤ) (d : ℕ) where
 
   pub record Demand3 (cs : List Call) : Type 0 where
     pub nothing-lost : totalIn cs ≡ totalOut cs +ℤ keptAfter cs  -- "words accepted = words handed out, each in its own unit, plus what is kept."
-    pub small : stepOf (left opened cs) handOut .outcome ≡ Done → natAbs (keptAfter (cs ++ handOut ∷ [])) ≤ 2 ^ opened .depth  -- "Right after a hand-out the kept value is at most half a coarse unit": and so is the difference of the totals
-    pub near : stepOf (left opened cs) handOut .outcome ≡ Done → natAbs (totalIn (cs ++ handOut ∷ []) -ℤ totalOut (cs ++ handOut ∷ [])) ≤ 2 ^ opened .depth
+    pub small : stepOf (left opened cs) handOut .outcome ≡ Done → natAbs (keptAfter (cs ++ handOut ∷ [])) ≤ 2 ^ opened .depth  -- "Right after a hand-out the kept value is at most half a coarse unit."
+    pub near : stepOf (left opened cs) handOut .outcome ≡ Done → natAbs (totalIn (cs ++ handOut ∷ []) -ℤ totalOut (cs ++ handOut ∷ [])) ≤ 2 ^ opened .depth  -- and so is the difference of the totals
     pub equal : stepOf (left opened cs) empty .outcome ≡ Done → totalIn (cs ++ empty ∷ []) ≡ totalOut (cs ++ empty ∷ [])  -- "Right after emptying the two totals are equal."
