@@ -8,6 +8,7 @@ pub mod Width
 pub mod Halves
 pub mod Machine
 pub mod Widened
+pub mod ExactlyOne
 pub mod Lists
 pub mod Bytes
 pub mod Parts

@@ -8,7 +8,6 @@ use lib.Bits.{bitAnd}
 use lib.IntN.{ℤ, pos, negsuc, _+ℤ_, _*ℤ_}
 use lib.Signed.{mag, ltZ, _≤ℤ_}
 use lib.Pow.{pow-add, pow-mono}
-use Rattle.integers.specs.Numbers.{exactlyOne}
 use Rattle.integers.proofs.Kit.{ints}
 use Rattle.words.specs.declared.Outcome.the-variants.{Done}
 use Rattle.words.specs.declared.RoundBit.{RoundBit}
@@ -43,13 +42,6 @@ pub magnitude-right : (n : RoundBit) → n .1 ≤ 1 → Magnitude (magnitude n) 
 magnitude-right n h =
     let e = magnitude-is-size n in
     record { bit = signs-if-bit (negative n) n h; positive = rw e (omega ints); size = ap mag e }
-
--- the code's test for "exactly one"
-pub exactly-one : (a b : Bool) → not (Bool·beq a b) ≡ exactlyOne a b
-exactly-one true true = refl
-exactly-one true false = refl
-exactly-one false true = refl
-exactly-one false false = refl
 
 -- two sizes of n and m digits, n + m - 1 ≤ 63: their product is far inside an i64
 pub product-room : (x y : RoundBitWord) → productCheck x y ≡ Done → (x .number .1 ≤ 1) × (y .number .1 ≤ 1) × ((mag (x .number .0) + 1) * (mag (y .number .0) + 1) ≤ 2 ^ 62)

@@ -7,12 +7,13 @@ use lib.Bits.{bitAnd, or-lt, or-add-and, and-le-l, and-le-r, and-comm}
 use lib.IntN.{ℤ, pos, negℤ, _+ℤ_, _*ℤ_, +ℤ-assoc, +ℤ-comm, *ℤ-comm, negℤ-negℤ}
 use lib.Signed.{mag}
 use Rattle.integers.specs.Numbers.{exactlyOne}
+use Rattle.integers.proofs.ExactlyOne.{one-not, one-comm}
 use Rattle.integers.proofs.Times.{plus-times, times-plus, neg-times, times-neg}
 use Rattle.integers.proofs.Width.{product-size}
 use Rattle.words.specs.declared.RoundBit.{RoundBit}
 use Rattle.round_bit.specs.Cuts.{signChanged}
 use Rattle.round_bit.specs.Arithmetic.{magnitudeProduct, negative, signChangedIf, magnitude, multiplied}
-use Rattle.round_bit.proofs.Laws.Signs.{signs-value, signs-if-bit, signs-if-size, signs-if-not, signs-if-not-twice, one-not, one-comm, turned-sign, magnitude-is-size}
+use Rattle.round_bit.proofs.Laws.Signs.{signs-value, signs-if-bit, signs-if-size, signs-if-not, signs-if-not-twice, turned-sign, magnitude-is-size}
 
 -- ---- numbers that are not negative (000, Definition 10): the fit, and the value a + r times b + s
 pub magnitude-product-fits : (a b r s i j : ℕ) → a < 2 ^ i → b < 2 ^ j → r ≤ 1 → s ≤ 1 → mag (magnitudeProduct (record { 0 = pos a; 1 = r }) (record { 0 = pos b; 1 = s }) .0) < 2 ^ (i + j)

@@ -6,7 +6,7 @@ use mathlib.Core.Bool.{Bool, true, false, not}
 use lib.IntN.{ℤ, pos, negsuc, negℤ, _+ℤ_}
 use lib.Signed.{mag, ltZ}
 use borrow.Author.Tests.{le-ltb}
-use Rattle.integers.specs.Numbers.{exactlyOne, turned}
+use Rattle.integers.specs.Numbers.{turned}
 use Rattle.integers.proofs.Kit.{ints, plus-law, neg-law}
 use Rattle.integers.proofs.Floor.{turned-pos, turned-negsuc, turned-law, turned-turned, turned-size}
 use Rattle.words.specs.Words.{value}
@@ -84,19 +84,6 @@ signs-if-not false n h = refl
 pub signs-if-not-twice : (c : Bool) (n : RoundBit) → n .1 ≤ 1 → signChangedIf (not c) (signChanged n) ≡ signChangedIf c n
 signs-if-not-twice true n h = refl
 signs-if-not-twice false n h = signs-twice n h
-
--- ---- exactly one of two
-pub one-not : (c d : Bool) → exactlyOne (not c) d ≡ not (exactlyOne c d)
-one-not true true = refl
-one-not true false = refl
-one-not false true = refl
-one-not false false = refl
-
-pub one-comm : (c d : Bool) → exactlyOne c d ≡ exactlyOne d c
-one-comm true true = refl
-one-comm true false = refl
-one-comm false true = refl
-one-comm false false = refl
 
 -- ---- -1 - a has the other sign, and the number of the magnitude is the size
 pub turned-sign : (a : ℤ) → ltZ (turned a) (pos 0) ≡ not (ltZ a (pos 0))

@@ -4,8 +4,9 @@ use mir.Val.{SFits}
 use mir.Facts.{toZ-ofZ}
 use native.Mathlib.Omega.{arith}
 use lib.Bits.{and-le-l}
+use Rattle.integers.proofs.ExactlyOne.{exactly-one}
 use Rattle.round_bit.specs.Arithmetic.{magnitude, magnitudeProduct, multiplied}
-use Rattle.round_bit.proofs.Magnitudes.{magnitude-right, exactly-one}
+use Rattle.round_bit.proofs.Magnitudes.{magnitude-right}
 use borrow.Author.Needs.{needs}
 use Rattle.round_bit.proofs.multiplied.Statement.{statement}
 use Rattle.round_bit.proofs.multiplied.Tie as tie
