@@ -1,6 +1,6 @@
 -- Document 01's digit texts that are read back, computed from the definitions.
 use mathlib.Core.Path.{_≡_, refl}
-use mathlib.Core.List.{List, [], _∷_}
+use mathlib.Core.List.{[], _∷_}
 use lib.IntN.{pos}
 use Rattle.integers.specs.Lists.{firstBad}
 use Rattle.words.specs.Refusals.{cause}

@@ -1,7 +1,7 @@
 -- Wrong answers: rows of a writing or a reading and an answer that it must not give, each tried against the definition by one computed
 -- test. With the uniqueness of each contract this shuts them out of the code.
 use Prim.Native.Nat.{ℕ}
-use mathlib.Core.Bool.{Bool, true, false, not, _&&_}
+use mathlib.Core.Bool.{Bool, true, not, _&&_}
 use mathlib.Core.List.{List, [], _∷_}
 use mathlib.Core.Path.{_≡_, refl}
 use lib.Dec.{eqb}

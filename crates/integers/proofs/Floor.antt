@@ -1,10 +1,10 @@
 -- Laws of the floor, at every depth. Assumes nothing.
 use mathlib.Core.Path.{_≡_, refl, sym, ap, _∙_}
-use Prim.Native.Nat.{ℕ, zero, suc, _+_, _*_, _-_, _/_, _^_, _<_, _≤_}
+use Prim.Native.Nat.{ℕ, _+_, _*_, _-_, _/_, _^_, _<_, _≤_}
 use native.Mathlib.Omega.{arith}
 use native.Mathlib.Nat.{lt-div-mul-add, div-mul-le-self, lt-of-mul-lt-mul-right, mul-le-mul-right, div-one}
 use lib.Pow.{pow-pos, shr-lt, shr-shr}
-use lib.IntN.{ℤ, pos, negsuc, _+ℤ_, _-ℤ_, _*ℤ_}
+use lib.IntN.{ℤ, pos, negsuc, _+ℤ_, _*ℤ_}
 use lib.Signed.{mag, shrZ, _≤ℤ_, _<ℤ_}
 use Rattle.integers.specs.Numbers.{floorBy, turned}
 use Rattle.integers.proofs.Kit.{up, down, ints, plus-law, minus-law, times-law, by-eq}

@@ -1,12 +1,11 @@
 -- The operands of a product made non-negative, as its code meets them. Assumes nothing.
-use Prim.Native.Nat.{ℕ, _+_, _-_, _*_, _^_, _≤_, _<_}
+use Prim.Native.Nat.{ℕ, _+_, _-_, _*_, _^_, _≤_}
 use native.Mathlib.Omega.{arith}
 use native.Mathlib.Nat.{mul-le-mul, le-trans}
-use mathlib.Core.Path.{_≡_, refl, ap, sym, _∙_}
-use mathlib.Core.Bool.{Bool, true, false, not, Bool·beq}
+use mathlib.Core.Path.{_≡_, refl, ap}
 use lib.Bits.{bitAnd}
 use lib.IntN.{ℤ, pos, negsuc, _+ℤ_, _*ℤ_}
-use lib.Signed.{mag, ltZ, _≤ℤ_}
+use lib.Signed.{mag, _≤ℤ_}
 use lib.Pow.{pow-add, pow-mono}
 use Rattle.integers.proofs.Kit.{ints}
 use Rattle.words.specs.declared.Outcome.the-variants.{Done}

@@ -1,7 +1,6 @@
 use mathlib.Core.Path.{_≡_, sym, _∙_}
 use mir.Facts.{toZ-ofZ}
 use Rattle.words.specs.RoundBit.{roundBitRefused, roundBitDone}
-use Rattle.words.specs.declared.Outcome.the-variants.{Done}
 use Rattle.words.proofs.Arms.{refused-into, done-into}
 use Rattle.digit_text.specs.Reading.{readCheck, readWord, readAnswer, readOf}
 use borrow.Author.Needs.{needs}

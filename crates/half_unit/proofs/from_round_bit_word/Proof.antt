@@ -1,5 +1,4 @@
 use mir.Facts.{toZ-ofZ}
-use native.Mathlib.Omega.{arith}
 use Rattle.words.proofs.Laws.{round-bit-right, small, machine}
 use Rattle.words.proofs.Formats.{answer-format}
 use Rattle.half_unit.specs.Conversions.{fromRoundBitWord}

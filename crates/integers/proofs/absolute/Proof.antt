@@ -1,5 +1,5 @@
 use mathlib.Core.Path.{_≡_, ap, _∙_, sym}
-use Prim.Native.Nat.{_+_, _-_, _^_}
+use Prim.Native.Nat.{_-_, _^_}
 use lib.IntN.{pos, negsuc, natAbs}
 use lib.Signed.{mag}
 use mir.Syntax.{w64}

@@ -1,6 +1,5 @@
 use mathlib.Core.Path.{ap}
 use lib.IntN.{natAbs}
-use native.Mathlib.Omega.{arith}
 use Rattle.integers.specs.Numbers.{digitsBelow}
 use Rattle.integers.proofs.LowDigits.{below-range}
 use Rattle.integers.proofs.Machine.{by-cast, byte-machine}

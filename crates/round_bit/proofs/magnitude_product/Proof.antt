@@ -1,8 +1,8 @@
-use Prim.Native.Nat.{_≤_, _<_, _+_, _*_, _^_}
+use Prim.Native.Nat.{_<_, _+_, _*_, _^_}
 use mathlib.Core.Path.{_≡_, _∙_, ap, sym}
 use native.Mathlib.Omega.{arith}
 use native.Mathlib.Nat.{mul-le-mul-left}
-use lib.IntN.{pos, natAbs}
+use lib.IntN.{natAbs}
 use lib.Signed.{mag}
 use mir.Syntax.{w64}
 use mir.Val.{SFits, toZ, ofZ}

@@ -4,13 +4,11 @@ use native.Mathlib.Nat.{lt-of-lt-of-le}
 use mathlib.Core.Path.{_≡_}
 use lib.Pow.{pow-mono}
 use lib.Signed.{mag}
-use mir.Syntax.{w64}
-use mir.Val.{SFits}
 use mir.Facts.{toZ-ofZ}
 use Rattle.words.specs.Formats.{wider}
 use Rattle.words.specs.declared.Outcome.the-variants.{Done}
 use Rattle.words.specs.declared.RoundBitWord.{RoundBitWord}
-use Rattle.words.proofs.Laws.{round-bit-right, machine}
+use Rattle.words.proofs.Laws.{round-bit-right}
 use Rattle.words.proofs.Formats.{answer-format, answer-right}
 use Rattle.round_bit.specs.Cuts.{widenWord, widenCheck}
 use Rattle.round_bit.proofs.Checks.{widen-passed}

@@ -1,6 +1,6 @@
 use Rattle.words.proofs.Laws.{passed}
 use Rattle.words.proofs.Formats.{answer-outcome}
-use mathlib.Core.Path.{_≡_, sym, _∙_}
+use mathlib.Core.Path.{sym, _∙_}
 use Rattle.words.specs.declared.Cause.the-variants.{Depth}
 use Rattle.running_sum.proofs.Checks.{depth-some, depth-none}
 use borrow.Author.Needs.{needs}

@@ -6,7 +6,7 @@ use mir.Val.{SFits}
 use mir.Facts.{toZ-ofZ}
 use borrow.Author.Needs.{needs}
 use Rattle.integers.specs.Numbers.{lies}
-use Rattle.integers.proofs.Kit.{ints, neg-law}
+use Rattle.integers.proofs.Kit.{ints}
 use Rattle.integers.proofs.Width.{lies-low, lies-high}
 use Rattle.words.specs.Formats.{formatAnswer}
 use Rattle.words.proofs.placed.Statement.{statement}
