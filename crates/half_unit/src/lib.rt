@@ -13,7 +13,6 @@ ghost use Prim.Native.Nat.{_+_, _*_, _^_, _<_, _≤_};
 ghost use lib.IntN.{pos, _+ℤ_, _*ℤ_};
 ghost use lib.Signed.{mag};
 ghost use Rattle.words.specs.Formats.{answerCheck, formatAnswer};
-ghost use Rattle.words.specs.HalfUnit.{halfUnitCheck};
 ghost use Rattle.half_unit.specs.Cuts.{signChangeWord, signChangeOf, cutWord, cutCheck, cutAnswer, cutOf};
 ghost use Rattle.half_unit.specs.Conversions.{fromPlainCheck, fromPlainUpWord, fromPlainUpOf, evenFloor, fromPlainEvenWord, fromPlainEvenOf, toPlainWord, toPlainCheck, toPlainOf, toRoundBitWord, toRoundBitOf, fromRoundBitWord, fromRoundBitCheck, fromRoundBitOf};
 ghost use Rattle.half_unit.specs.Arithmetic.{sumCheck, sumUpWord, sumUpOf, sumEvenWord, sumEvenOf, multiplied, productFormat, productWord, productCheck, productOf};

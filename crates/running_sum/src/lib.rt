@@ -8,7 +8,7 @@
 // A sum goes in by value and comes back by value. Every call takes any sum, also one that no opening
 // made, and a refused call leaves the sum as it was, digit for digit.
 ghost use mathlib.Core.Path.{_≡_};
-ghost use Rattle.running_sum.specs.Steps.{depthCheck, openCheck, openAnswer, openOf, Call, put, handOut, empty, stepOf, sumCheck, putCheck, keeping, putAnswer, handOutAnswer, emptyAnswer};
+ghost use Rattle.running_sum.specs.Steps.{depthCheck, openCheck, openAnswer, openOf, put, handOut, empty, stepOf, sumCheck, putCheck, keeping, putAnswer, handOutAnswer, emptyAnswer};
 use words::Cause;
 use words::Format;
 use words::Outcome;
