@@ -27,8 +27,6 @@ AIMS = {
 }
 GROWTH_AIM = 1.1
 
-UNITS = {"times": "ns", "instructions": "instructions"}
-
 
 def rated(ratio, aim=None):
     """The ratio as text, with its aim where it has one."""
@@ -60,12 +58,16 @@ def main():
     for line in sys.stdin:
         row, peer, pieces, cost = line.split()
         costs[row, peer] = int(cost) / int(pieces)
-    unit = UNITS[shown]
     peers = PEERS | PACKAGES
+    counted = shown == "instructions"
     print(f"Measured: {shown}. Each ratio is library / peer: under 1 the library is ahead.\n")
-    rows = [[name, f"{costs[row, 'library']:.1f}", *(compared(costs, row, peer) for peer in peers)] for row, name in ROWS.items()]
-    show(["operation", f"library, {unit} a word or record", *peers.values()], rows)
-    print(f"\nGrowth: {unit} of a record among 8,000 / among 1,000. 1 is linear.\n")
+    # A count is the same everywhere; a time says nothing but beside another of the same run.
+    rows = [
+        [name, *([f"{costs[row, 'library']:.1f}"] if counted else []), *(compared(costs, row, peer) for peer in peers)]
+        for row, name in ROWS.items()
+    ]
+    show(["operation", *(["library, instructions a word or record"] if counted else []), *peers.values()], rows)
+    print(f"\nGrowth: {shown} of a record among 8,000 / among 1,000. 1 is linear.\n")
     growing = {"library": "library"} | PEERS
     rows = [[name, *(growth(costs, row, peer) for peer in growing)] for row, name in GROWING.items()]
     show(["operation", *growing.values()], rows)

@@ -5,27 +5,19 @@ use lib.IntN.{ℤ}
 use mir.Syntax.{w64}
 use mir.Val.{SFits, toZ, ofZ}
 use mir.Facts.{toZ-ofZ}
+use Rattle.words.specs.Refusals.{_orElse_, wordCheck}
 use Rattle.words.specs.Formats.{narrower, narrowerCheck, wider, answerCheck, formatAnswer}
-use Rattle.words.specs.Plain.{plainCheck}
 use Rattle.words.specs.RoundBit.{roundBitCheck}
 use Rattle.words.specs.HalfUnit.{halfUnitWord, halfUnitCheck}
 use Rattle.words.specs.declared.Outcome.the-variants.{Done}
 use Rattle.words.specs.declared.Format.{Format}
 use Rattle.words.specs.declared.FormatAnswer.{FormatAnswer}
-use Rattle.words.specs.declared.PlainWord.{PlainWord}
 use Rattle.words.specs.declared.RoundBitWord.{RoundBitWord}
 use Rattle.words.specs.declared.HalfUnitWord.{HalfUnitWord}
-use Rattle.words.proofs.Laws.{both-passed, three-passed}
+use Rattle.words.proofs.Laws.{both-passed, three-passed, right, machine}
 use Rattle.words.proofs.Formats.{answer-format}
-use Rattle.half_unit.specs.Cuts.{cutCheck}
-use Rattle.half_unit.specs.Conversions.{fromPlainCheck, toPlainCheck, fromRoundBitCheck}
+use Rattle.half_unit.specs.Conversions.{toPlainCheck, fromRoundBitCheck}
 use Rattle.half_unit.specs.Arithmetic.{sumCheck, productFormat, productCheck}
-
-pub cut-passed : (w : HalfUnitWord) (d : ℕ) → cutCheck w d ≡ Done → (halfUnitCheck w ≡ Done) × (narrowerCheck (w .format) d ≡ Done)
-cut-passed w d e = both-passed (halfUnitCheck w) (narrowerCheck (w .format) d) e
-
-pub from-plain-passed : (w : PlainWord) (d : ℕ) → fromPlainCheck w d ≡ Done → (plainCheck w ≡ Done) × (narrowerCheck (w .format) d ≡ Done)
-from-plain-passed w d e = both-passed (plainCheck w) (narrowerCheck (w .format) d) e
 
 pub to-plain-passed : (w : HalfUnitWord) → toPlainCheck w ≡ Done → (halfUnitCheck w ≡ Done) × (answerCheck (wider (w .format) 1) ≡ Done)
 to-plain-passed w e = both-passed (halfUnitCheck w) (answerCheck (wider (w .format) 1)) e
@@ -39,6 +31,8 @@ sum-passed x y e = let p = three-passed (halfUnitCheck x) (halfUnitCheck y) _ e 
 pub product-passed : (x y : HalfUnitWord) → productCheck x y ≡ Done → (halfUnitCheck x ≡ Done) × (halfUnitCheck y ≡ Done) × (answerCheck (productFormat (x .format) (y .format)) ≡ Done)
 product-passed x y e = three-passed (halfUnitCheck x) (halfUnitCheck y) _ e
 
--- ---- a number q that the code made of x by a rule, in the format that it was handed for the depth
-pub narrowed : (rule : ℤ → ℕ → ℤ) (f : Format) (x q : ℤ) (d : ℕ) (a : FormatAnswer) → SFits w64 x → narrowerCheck f d ≡ Done → a ≡ formatAnswer (narrowerCheck f d) (narrower f d) → SFits w64 q → q ≡ rule (toZ w64 (ofZ w64 x)) d → halfUnitWord (toZ w64 (ofZ w64 q)) (a .format) ≡ halfUnitWord (rule x d) (narrower f d)
-narrowed rule f x q d a s p e t g = rw (e, answer-format _ _ p, toZ-ofZ t, g, toZ-ofZ s)
+-- ---- of a word of either kind that passed: the number q that the code made of x by a rule, in the format that it was handed for the depth
+pub narrowed : (rule : ℤ → ℕ → ℤ) (f : Format) (x q : ℤ) (d : ℕ) (a : FormatAnswer) → (wordCheck f x 0 orElse narrowerCheck f d) ≡ Done → a ≡ formatAnswer (narrowerCheck f d) (narrower f d) → SFits w64 q → q ≡ rule (toZ w64 (ofZ w64 x)) d → halfUnitWord (toZ w64 (ofZ w64 q)) (a .format) ≡ halfUnitWord (rule x d) (narrower f d)
+narrowed rule f x q d a e g s h =
+    let p = both-passed (wordCheck f x 0) (narrowerCheck f d) e in
+    rw (g, answer-format _ _ (p .1), toZ-ofZ s, h, toZ-ofZ (machine (right f x 0 (p .0))))
