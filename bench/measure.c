@@ -171,6 +171,8 @@ static void check_all(void)
 static double nanoseconds(const struct row *row, loop *run)
 {
     struct timespec from, to;
+    /* Once unmeasured: the peer before has left its own code and bytes in the caches. */
+    run(&work, answers);
     clock_gettime(CLOCK_MONOTONIC, &from);
     for (int i = 0; i < row->repetitions; i++)
         run(&work, answers);
@@ -178,20 +180,24 @@ static double nanoseconds(const struct row *row, loop *run)
     return ((double)(to.tv_sec - from.tv_sec) * 1e9 + (double)(to.tv_nsec - from.tv_nsec)) / row->repetitions;
 }
 
-static void print_times(const struct row *row)
+/* All rows in every turn: a slow spell of the machine then costs each of them a turn, not one of them all its turns. */
+static void print_times(void)
 {
-    double best[PEERS] = {0};
-    prepare(row);
+    static double best[ROWS][PEERS];
     for (int turn = 0; turn < TURNS; turn++)
+        for (int r = 0; r < ROWS; r++) {
+            prepare(&rows[r]);
+            for (int p = 0; p < PEERS; p++)
+                if (peers[p].loops[rows[r].loop] != NULL) {
+                    double taken = nanoseconds(&rows[r], peers[p].loops[rows[r].loop]);
+                    if (turn == 0 || taken < best[r][p])
+                        best[r][p] = taken;
+                }
+        }
+    for (int r = 0; r < ROWS; r++)
         for (int p = 0; p < PEERS; p++)
-            if (peers[p].loops[row->loop] != NULL) {
-                double taken = nanoseconds(row, peers[p].loops[row->loop]);
-                if (turn == 0 || taken < best[p])
-                    best[p] = taken;
-            }
-    for (int p = 0; p < PEERS; p++)
-        if (peers[p].loops[row->loop] != NULL)
-            printf("%s %s %u %.0f\n", row->name, peers[p].name, row->pieces, best[p]);
+            if (peers[p].loops[rows[r].loop] != NULL)
+                printf("%s %s %u %.0f\n", rows[r].name, peers[p].name, rows[r].pieces, best[r][p]);
 }
 
 static int run(const char *row, const char *peer, int repetitions)
@@ -228,8 +234,7 @@ int main(int argc, char **argv)
         return 0;
     }
     if (strcmp(what, "times") == 0) {
-        for (int r = 0; r < ROWS; r++)
-            print_times(&rows[r]);
+        print_times();
         return 0;
     }
     fputs("usage: measure check | times | file | ROW PEER N\n", stderr);
