@@ -76,9 +76,9 @@ static void make_block(struct work *w, uint64_t *state, uint32_t records)
 }
 
 /* Widths end at 32 and units at 60, so that no product is refused. */
-void make_work(struct work *w, uint32_t records)
+void make_work(struct work *w, uint64_t seed, uint32_t records)
 {
-    uint64_t state = 20260101;
+    uint64_t state = 20260101 + seed;
     w->words = MOST_WORDS;
     w->sum_width = SUM_WIDTH;
     w->sum_unit = SUM_UNIT;

@@ -51,8 +51,8 @@ enum { SUM, CUT, PRODUCT, PUT_HAND_OUT, READ, WRITE, LISTING, EACH_SUM, LOOPS };
 
 typedef void loop(const struct work *w, struct answers *a);
 
-/* Work that nobody refuses, to be measured. */
-void make_work(struct work *w, uint32_t records);
+/* Work that nobody refuses, to be measured; each seed has records of its own. */
+void make_work(struct work *w, uint64_t seed, uint32_t records);
 
 /* Little work, with every cause to be refused over many seeds, to be checked. */
 void make_odd_work(struct work *w, uint64_t seed);

@@ -5,9 +5,9 @@
  * of document 01's table. `refusal` is 0 for done. A refusal answers the blank word (number 0, round bit 0, width 2,
  * unit 0), changes no byte of any lent buffer and no digit of a running sum. A unit is the exponent e of 2^e.
  *
- * What no proof covers: these declarations, and a caller's pointers. Each pointer must be valid for its length,
- * aligned for its type, and no buffer that is written may overlap another argument. A pointer with length 0 is not
- * looked through, but must not be null: lend any valid address.
+ * What no proof covers: these declarations, the stack, and a caller's pointers. No call needs more than 64 KiB of
+ * stack. Each pointer must be valid for its length, aligned for its type, and no buffer that is written may overlap
+ * another argument. A pointer with length 0 is not looked through, but must not be null: lend any valid address.
  */
 #ifndef FROSTULDI_H
 #define FROSTULDI_H
@@ -79,7 +79,7 @@ frost_written frost_file_write(uint32_t kind, uint32_t width, int32_t unit, cons
                                size_t room);
 
 /* The listing of a file as text. A refused file is text, `refused N`; the call itself refuses 10 alone. No listing is
- * longer than 248,019 bytes. */
+ * longer than 248,019 bytes; in less room than that the text is counted before it is written, which takes longer. */
 frost_written frost_listing_text(const uint8_t *file, size_t length, uint8_t *text, size_t room);
 
 #ifdef __cplusplus
