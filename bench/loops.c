@@ -73,7 +73,19 @@ static void write_listing(const struct work *w, struct answers *a)
     a->written = CALL(listing_text)(w->file, w->length, a->bytes, w->text_room);
 }
 
+static void write_listing_in_little_room(const struct work *w, struct answers *a)
+{
+    a->written = CALL(listing_text)(w->file, w->length, a->bytes, w->little_text_room);
+}
+
 loop *const NAME[LOOPS] = {
-    [SUM] = sum,        [CUT] = cut_by_depth, [PRODUCT] = product,       [PUT_HAND_OUT] = put_hand_out,
-    [READ] = read_file, [WRITE] = write_file, [LISTING] = write_listing, [EACH_SUM] = each_sum,
+    [SUM] = sum,
+    [CUT] = cut_by_depth,
+    [PRODUCT] = product,
+    [PUT_HAND_OUT] = put_hand_out,
+    [READ] = read_file,
+    [WRITE] = write_file,
+    [LISTING] = write_listing,
+    [LISTING_IN_LITTLE_ROOM] = write_listing_in_little_room,
+    [EACH_SUM] = each_sum,
 };

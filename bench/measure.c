@@ -1,7 +1,7 @@
 /* Runs the loops of all peers on the same work.
  *
  *   measure check       holds the answers of every peer to the library's and prints `ROW PEER PIECES` for each
- *   measure times       prints `ROW PEER PIECES NANOSECONDS` for each, the best of several, the peers taking turns
+ *   measure times       prints `ROW PEER PIECES NANOSECONDS` for each, the best of several turns
  *   measure ROW PEER N  runs one loop N times, for a counter of instructions
  *   measure file        writes the file of 8,000 records, for the listing programs
  */
@@ -12,7 +12,7 @@
 
 #include "work.h"
 
-enum { TURNS = 21, ODD_WORKS = 1000 };
+enum { TURNS = 61, ODD_WORKS = 1000 };
 
 extern loop *const library[LOOPS], *const call[LOOPS], *const inlined[LOOPS], *const second[LOOPS];
 
@@ -46,10 +46,10 @@ static const struct peer {
 };
 enum { PEERS = sizeof peers / sizeof *peers };
 
-/* Works: how many are gone through in one repetition, which is the same count of words or records in every row. A few
- * short files in place of a long one must not be one short file time and again: a processor learns that by heart.
- * Repetitions: enough for the clock, in each turn. */
-enum { PIECES = 8000, MOST_WORKS = 8 };
+/* A repetition goes through all works of a row, and so through as many words or records in every row. Short files are
+ * several works, not one time and again, which a processor learns by heart. Repetitions: enough for the clock. */
+enum { PIECES = MOST_RECORDS, MOST_WORKS = 8 };
+_Static_assert(MOST_WORDS == MOST_RECORDS, "as many words in one work as records");
 static const struct row {
     const char *name;
     int loop, works, repetitions;
@@ -61,6 +61,7 @@ static const struct row {
     {"read", READ, 1, 100},
     {"write", WRITE, 1, 100},
     {"listing", LISTING, 1, 5},
+    {"listing-little", LISTING_IN_LITTLE_ROOM, 1, 5},
     {"read-1000", READ, MOST_WORKS, 100},
     {"write-1000", WRITE, MOST_WORKS, 100},
     {"listing-1000", LISTING, MOST_WORKS, 5},

@@ -10,6 +10,7 @@ ROWS = {
     "read": "file read, 8,000 records",
     "write": "file write, 8,000 records",
     "listing": "listing, 8,000 records",
+    "listing-little": "the same in less room",
     "program": "listing program, 8,000 records",
 }
 PEERS = {"call": "C behind a call", "inlined": "C inlined", "second": "second program"}
@@ -23,6 +24,7 @@ AIMS = {
     ("put-hand-out", "sc_fix_fast"): 1 / 20,
     ("read", "call"): 2,
     ("listing", "call"): 1,
+    ("listing-little", "call"): 1,
     ("program", "call"): 1,
 }
 GROWTH_AIM = 1.1

@@ -95,6 +95,7 @@ void make_work(struct work *w, uint64_t seed, uint32_t records)
     w->numbers_room = w->rounds_room = MOST_RECORDS;
     w->file_room = LONGEST_FILE_BYTES;
     w->text_room = LONGEST_TEXT_BYTES;
+    w->little_text_room = LONGEST_TEXT_BYTES - 1;
 }
 
 /* A file with a byte or two changed and perhaps a wrong length, and a block and rooms that do not fit it. */
@@ -116,6 +117,7 @@ static void make_odd_block(struct work *w, uint64_t *state)
     w->rounds_room = below(state, 8);
     w->file_room = below(state, 64);
     w->text_room = below(state, 128);
+    w->little_text_room = below(state, 64);
 }
 
 void make_odd_work(struct work *w, uint64_t seed)

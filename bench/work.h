@@ -32,7 +32,8 @@ struct work {
     uint8_t rounds[MOST_RECORDS];
     size_t length;
     uint8_t file[LONGEST_FILE_BYTES];
-    size_t numbers_room, rounds_room, file_room, text_room;
+    /* The first text room is enough for any listing; the second is less than that. */
+    size_t numbers_room, rounds_room, file_room, text_room, little_text_room;
 };
 
 /* What the loops answer; each leaves the places of the others as they were. */
@@ -47,7 +48,7 @@ struct answers {
 };
 
 /* The last is only checked, on odd work. */
-enum { SUM, CUT, PRODUCT, PUT_HAND_OUT, READ, WRITE, LISTING, EACH_SUM, LOOPS };
+enum { SUM, CUT, PRODUCT, PUT_HAND_OUT, READ, WRITE, LISTING, LISTING_IN_LITTLE_ROOM, EACH_SUM, LOOPS };
 
 typedef void loop(const struct work *w, struct answers *a);
 

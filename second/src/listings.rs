@@ -15,6 +15,12 @@ use std::io::Write;
 use std::process::{ChildStdin, Command, Stdio};
 use std::time::Duration;
 
+/// Bytes: a first line as `PLAIN 32 -127 8000`, and a line as `7999 -2147483648 1 -4294967296` for every record.
+const ENOUGH: usize = 19 + 31 * 8_000;
+
+/// Bytes: files with nearly as many records as any.
+const LONG_FILE: usize = 12 + 5 * 7_999;
+
 pub fn jobs(seed: u64, program: &str) -> Vec<Job> {
     let program = program.to_string();
     vec![
@@ -87,6 +93,14 @@ fn list_into_all_rooms(file: &[u8], record: &mut Record) {
     }
 }
 
+/// Buffers that are enough for any listing, and one byte less: a caller need not know how long the text is.
+fn list_into_large_rooms(file: &[u8], record: &mut Record) {
+    let text = listing::listing(file);
+    for room in [ENOUGH, ENOUGH - 1] {
+        compare_listing(file, &text, room, record);
+    }
+}
+
 fn list_damaged(random: &mut Random, record: &mut Record) {
     for kind in 0..3 {
         for width in [2, 31, 32] {
@@ -113,8 +127,12 @@ fn list_thousand(seed: u64, record: &mut Record) {
     record.check(document == blocks::ITS_LISTING, || {
         format!("the listing in the document\n  second:  {:?}", document)
     });
-    for file in blocks::thousand(seed) {
-        list_into_all_rooms(&file, record);
+    for (index, file) in blocks::thousand(seed).iter().enumerate() {
+        list_into_all_rooms(file, record);
+        // Not all of them: a large buffer takes long to compare.
+        if index % 16 == 0 || file.len() >= LONG_FILE {
+            list_into_large_rooms(file, record);
+        }
     }
 }
 
