@@ -19,7 +19,7 @@ use Rattle.words.specs.HalfUnit.{halfUnitCheck, halfUnitFitted}
 use Rattle.words.specs.declared.PlainWord.{PlainWord}
 use Rattle.words.specs.declared.RoundBitWord.{RoundBitWord}
 use Rattle.words.specs.declared.HalfUnitWord.{HalfUnitWord}
-use Rattle.words.proofs.Flat.{Flat, flat, laidFlat, flatRoundBit, flatHalfUnit, sameFlat, plainAt, roundBitAt, halfUnitAt, done, refused}
+use Rattle.words.specs.Flat.{Flat, flat, laidFlat, flatRoundBit, flatHalfUnit, sameFlat, plainAt, roundBitAt, halfUnitAt, done, refused}
 use Rattle.round_bit.specs.Cuts.{signChangeWord, cutBy, cutOf, restWord, restOf, evenRoundBit, evenCutOf, widenWord, widenOf}
 use Rattle.round_bit.specs.Arithmetic.{sumWord, sumOf, differenceOf, magnitudeProduct, multiplied, productWord, productOf}
 use Rattle.half_unit.specs.Conversions.{fromPlainUpWord, fromPlainUpOf, evenFloor, fromPlainEvenWord, fromPlainEvenOf}

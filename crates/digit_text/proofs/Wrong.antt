@@ -12,7 +12,7 @@ use Rattle.integers.specs.Lists.{firstBad, all}
 use Rattle.integers.specs.Bytes.{sameBytes}
 use Rattle.words.specs.Refusals.{numberOf, formatCheck, wordCheck, lentAfter, writeAnswer}
 use Rattle.words.specs.RoundBit.{roundBitCheck}
-use Rattle.words.proofs.Flat.{Flat, laidFlat, sameFlat, roundBitAt as at, done, refused}
+use Rattle.words.specs.Flat.{Flat, laidFlat, sameFlat, roundBitAt as at, done, refused}
 use Rattle.words.specs.declared.RoundBitWord.{RoundBitWord}
 use Rattle.digit_text.specs.Digits.{plus, none, minus, signedDigit, byteOf, digitOf, byteAt, text, textValue, signBefore, writeCheck, writeOf, bufferOf}
 use Rattle.digit_text.specs.Reading.{goodAt, firstFault, faulty, readCheck, readRound, readWord, readOf}

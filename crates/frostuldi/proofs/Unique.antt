@@ -2,7 +2,7 @@
 use mathlib.Core.Path.{sym, _∙_}
 use contract.Lifetimes.{Lfts}
 use denote.Ref.{now}
-use Rattle.integers.proofs.OneOutcome.{OneResult, OneBuffer}
+use Rattle.integers.specs.OneOutcome.{OneResult, OneBuffer}
 use Rattle.frostuldi.proofs.frost_round_bit_sign_change.Reads as frost-round-bit-sign-change
 use Rattle.frostuldi.proofs.frost_round_bit_cut.Reads as frost-round-bit-cut
 use Rattle.frostuldi.proofs.frost_round_bit_even_cut.Reads as frost-round-bit-even-cut

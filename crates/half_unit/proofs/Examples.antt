@@ -5,7 +5,7 @@ use Rattle.integers.specs.Numbers.{fitsWidth, floorBy}
 use Rattle.words.specs.Refusals.{cause, formatCheck, wordCheck}
 use Rattle.words.specs.Formats.{format, answerCheck}
 use Rattle.words.specs.HalfUnit.{halfUnitWord, halfUnitCheck, halfUnitRefused, halfUnitDone}
-use Rattle.words.proofs.Flat.{halfUnitAt as at}
+use Rattle.words.specs.Flat.{halfUnitAt as at}
 use Rattle.half_unit.specs.Arithmetic.{multiplied, productWord, productOf}
 
 -- "Widths 32 and 32: .. half-unit product 6. Widths 32 and 31: half-unit product done."

@@ -1,6 +1,6 @@
 -- Only one outcome meets each public function's contract.
 use mathlib.Core.Path.{sym, _∙_}
-use Rattle.integers.proofs.OneOutcome.{OneResult}
+use Rattle.integers.specs.OneOutcome.{OneResult}
 use Rattle.half_unit.proofs.sign_change.Reads as sign-change
 use Rattle.half_unit.proofs.cut.Reads as cut
 use Rattle.half_unit.proofs.from_plain_up.Reads as from-plain-up

@@ -13,7 +13,7 @@ use Rattle.words.specs.Formats.{narrowerCheck, answerCheck}
 use Rattle.words.specs.Plain.{plainCheck}
 use Rattle.words.specs.RoundBit.{roundBitCheck}
 use Rattle.words.specs.HalfUnit.{halfUnitCheck, halfUnitFitted}
-use Rattle.words.proofs.Flat.{Flat, flat, laidFlat, flatPlain, flatRoundBit, flatHalfUnit, sameFlat, plainAt, roundBitAt, halfUnitAt as at, done, refused}
+use Rattle.words.specs.Flat.{Flat, flat, laidFlat, flatPlain, flatRoundBit, flatHalfUnit, sameFlat, plainAt, roundBitAt, halfUnitAt as at, done, refused}
 use Rattle.words.specs.declared.PlainWord.{PlainWord}
 use Rattle.words.specs.declared.RoundBitWord.{RoundBitWord}
 use Rattle.words.specs.declared.HalfUnitWord.{HalfUnitWord}

@@ -12,6 +12,5 @@ pub mod ExactlyOne
 pub mod Lists
 pub mod Bytes
 pub mod Parts
-pub mod OneOutcome
 mod Unique
 mod Examples

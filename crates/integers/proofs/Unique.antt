@@ -1,6 +1,6 @@
 -- Only one outcome meets each public function's contract.
 use mathlib.Core.Path.{sym, _∙_}
-use Rattle.integers.proofs.OneOutcome.{OneResult}
+use Rattle.integers.specs.OneOutcome.{OneResult}
 use Rattle.integers.proofs.floor_by.Reads as floor-by
 use Rattle.integers.proofs.cleared.Reads as cleared
 use Rattle.integers.proofs.digit.Reads as digit

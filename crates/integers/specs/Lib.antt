@@ -2,3 +2,4 @@ pub mod Numbers
 pub mod Lists
 pub mod Bytes
 pub mod Names
+pub mod OneOutcome

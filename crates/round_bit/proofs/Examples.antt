@@ -6,7 +6,7 @@ use Rattle.words.specs.Refusals.{cause, formatCheck, wordCheck}
 use Rattle.words.specs.Formats.{answerCheck}
 use Rattle.words.specs.Plain.{plainRefused, plainFitted}
 use Rattle.words.specs.RoundBit.{roundBitCheck, roundBitDone}
-use Rattle.words.proofs.Flat.{roundBitAt as at}
+use Rattle.words.specs.Flat.{roundBitAt as at}
 use Rattle.round_bit.specs.Cuts.{signChangeWord}
 use Rattle.round_bit.specs.Arithmetic.{sumWord, magnitudeProduct, multiplied, productWord, productOf, toPlainWord, toPlainOf}
 

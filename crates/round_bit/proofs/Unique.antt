@@ -1,6 +1,6 @@
 -- Only one outcome meets each public function's contract.
 use mathlib.Core.Path.{sym, _∙_}
-use Rattle.integers.proofs.OneOutcome.{OneResult}
+use Rattle.integers.specs.OneOutcome.{OneResult}
 use Rattle.round_bit.proofs.sign_change.Reads as sign-change
 use Rattle.round_bit.proofs.cut.Reads as cut
 use Rattle.round_bit.proofs.rest.Reads as rest

@@ -12,7 +12,7 @@ use Rattle.words.specs.Refusals.{formatCheck, wordCheck}
 use Rattle.words.specs.Formats.{narrowerCheck, answerCheck}
 use Rattle.words.specs.Plain.{plainCheck, plainFitted}
 use Rattle.words.specs.RoundBit.{roundBitCheck, roundBitFitted}
-use Rattle.words.proofs.Flat.{Flat, flat, laidFlat, flatPlain, flatRoundBit, sameFlat, plainAt, roundBitAt as at, done, refused}
+use Rattle.words.specs.Flat.{Flat, flat, laidFlat, flatPlain, flatRoundBit, sameFlat, plainAt, roundBitAt as at, done, refused}
 use Rattle.words.specs.declared.PlainWord.{PlainWord}
 use Rattle.words.specs.declared.RoundBitWord.{RoundBitWord}
 use Rattle.round_bit.specs.Cuts.{signChangeWord, signChangeOf, cutBy, cutOf, restWord, restOf, evenRoundBit, evenCutOf, widenWord, widenOf}

@@ -1,6 +1,6 @@
 -- Only one outcome meets each public function's contract.
 use mathlib.Core.Path.{sym, _∙_}
-use Rattle.integers.proofs.OneOutcome.{OneResult}
+use Rattle.integers.specs.OneOutcome.{OneResult}
 use Rattle.running_sum.proofs.open.Reads as «open»
 use Rattle.running_sum.proofs.RunningSum.put.Reads as put
 use Rattle.running_sum.proofs.RunningSum.hand_out.Reads as hand-out

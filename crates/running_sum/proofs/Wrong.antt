@@ -12,7 +12,7 @@ use Rattle.integers.specs.Lists.{firstBad, all}
 use Rattle.words.specs.Refusals.{formatCheck, wordCheck}
 use Rattle.words.specs.Formats.{narrowerCheck}
 use Rattle.words.specs.RoundBit.{roundBitCheck, roundBitFitted}
-use Rattle.words.proofs.Flat.{Flat, flat, laidFlat, sameFlat, roundBitAt, refused as noWord}
+use Rattle.words.specs.Flat.{Flat, flat, laidFlat, sameFlat, roundBitAt, refused as noWord}
 use Rattle.words.specs.declared.Outcome.{Outcome}
 use Rattle.words.specs.declared.RoundBitWord.{RoundBitWord}
 use Rattle.round_bit.specs.Cuts.{cutBy, restWord}

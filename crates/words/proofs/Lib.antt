@@ -2,7 +2,6 @@ pub mod Laws
 pub mod Formats
 pub mod Rights
 pub mod Operands
-pub mod Flat
 pub mod Arms
 mod Unique
 mod Examples

@@ -1,6 +1,6 @@
 -- Only one outcome meets each public function's contract.
 use mathlib.Core.Path.{sym, _∙_}
-use Rattle.integers.proofs.OneOutcome.{OneResult}
+use Rattle.integers.specs.OneOutcome.{OneResult}
 use Rattle.words.proofs.number_of.Reads as number-of
 use Rattle.words.proofs.refuse.Reads as refuse
 use Rattle.words.proofs.or_else.Reads as or-else

@@ -4,3 +4,4 @@ pub mod Formats
 pub mod Plain
 pub mod RoundBit
 pub mod HalfUnit
+pub mod Flat
