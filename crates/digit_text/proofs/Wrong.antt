@@ -2,7 +2,7 @@
 -- test. With the uniqueness of each contract this shuts them out of the code.
 use Prim.Native.Nat.{ℕ}
 use mathlib.Core.Bool.{Bool, true, not, _&&_}
-use mathlib.Core.List.{List, [], _∷_}
+use mathlib.Core.List.{List, [], _∷_, _++_}
 use mathlib.Core.Path.{_≡_, refl}
 use lib.Dec.{eqb}
 use lib.IntN.{ℤ, pos, negsuc}
@@ -30,25 +30,38 @@ differs (read t e x) =
     let a = readOf t e in
     not (sameFlat (laidFlat (a .outcome) (a .word .number .0) (a .word .number .1) (a .word .format)) x)
 
-abbrev wrong : List Row
-wrong =
-    -- (2,0) of width 3 is `+-0` and (0,1) `00+`: least significant first; r taken for 0; one byte more; refuses always
+-- of each way the three stand-ins: one that refuses, one that gives a fixed answer, one that copies its input through. (2,0) of width 3
+-- is `+-0`: a writer that leaves the lent bytes as they are copies, a reader that takes the first byte for a number too
+abbrev standIns : List Row
+standIns =
+    write (at 3 (pos 2) 0) (9 ∷ 9 ∷ 9 ∷ 9 ∷ []) 10 0 (9 ∷ 9 ∷ 9 ∷ 9 ∷ [])
+    ∷ write (at 3 (pos 2) 0) (9 ∷ 9 ∷ 9 ∷ 9 ∷ []) 0 3 (none ∷ none ∷ none ∷ 9 ∷ [])
+    ∷ write (at 3 (pos 2) 0) (9 ∷ 9 ∷ 9 ∷ 9 ∷ []) 0 3 (9 ∷ 9 ∷ 9 ∷ 9 ∷ [])
+    ∷ read (plus ∷ minus ∷ []) (pos 0) (refused 9)
+    ∷ read (plus ∷ minus ∷ []) (pos 0) (refused 0)
+    ∷ read (plus ∷ minus ∷ []) (pos 0) (done 2 (pos plus) 0)
+    ∷ []
+
+abbrev mistakes : List Row
+mistakes =
+    -- (2,0) of width 3 is `+-0` and (0,1) `00+`: least significant first; r taken for 0; one byte more
     write (at 3 (pos 2) 0) (9 ∷ 9 ∷ 9 ∷ 9 ∷ []) 0 3 (none ∷ minus ∷ plus ∷ 9 ∷ [])
     ∷ write (at 3 (pos 0) 1) (9 ∷ 9 ∷ 9 ∷ 9 ∷ []) 0 3 (none ∷ none ∷ none ∷ 9 ∷ [])
     ∷ write (at 3 (pos 2) 0) (9 ∷ 9 ∷ 9 ∷ 9 ∷ []) 0 3 (plus ∷ minus ∷ none ∷ none ∷ [])
-    ∷ write (at 3 (pos 2) 0) (9 ∷ 9 ∷ 9 ∷ 9 ∷ []) 10 0 (9 ∷ 9 ∷ 9 ∷ 9 ∷ [])
     -- a refusal that writes what there is room for; one that answers a count
     ∷ write (at 3 (pos 2) 0) (9 ∷ 9 ∷ []) 10 0 (plus ∷ minus ∷ [])
     ∷ write (at 3 (pos 2) 0) (9 ∷ 9 ∷ []) 10 3 (9 ∷ 9 ∷ [])
-    -- a last `+` read with round bit 0; repeated signs let through over a zero; refuses always; a strange byte taken for 0
+    -- a last `+` read with round bit 0; repeated signs let through over a zero; a strange byte taken for 0
     ∷ read (none ∷ plus ∷ []) (pos 0) (done 2 (pos 1) 0)
     ∷ read (plus ∷ none ∷ plus ∷ []) (pos 0) (done 3 (pos 4) 1)
-    ∷ read (plus ∷ minus ∷ []) (pos 0) (refused 9)
     ∷ read (plus ∷ 120 ∷ []) (pos 0) (done 2 (pos 1) 1)
     -- all zeros as the other word that is nothing; 9 before 2
     ∷ read (none ∷ none ∷ []) (pos 0) (done 2 (negsuc 0) 1)
     ∷ read (plus ∷ plus ∷ []) (pos 128) (refused 9)
     ∷ []
+
+abbrev wrong : List Row
+wrong = standIns ++ mistakes
 
 all-wrong : all (length wrong) (λ k. differs (getD wrong k (read [] (pos 0) (refused 1)))) ≡ true
 unfolding firstBad fitsWidth floorBy lowest digit formatCheck wordCheck roundBitCheck signedDigit byteOf digitOf byteAt textValue signBefore writeAnswer lentAfter text writeCheck writeOf bufferOf goodAt firstFault faulty readCheck readRound readWord readOf

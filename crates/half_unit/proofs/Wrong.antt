@@ -2,7 +2,7 @@
 -- computed test. With the uniqueness of each contract this shuts them out of the code.
 use Prim.Native.Nat.{ℕ}
 use mathlib.Core.Bool.{Bool, true, not}
-use mathlib.Core.List.{List, [], _∷_}
+use mathlib.Core.List.{List, [], _∷_, _++_}
 use mathlib.Core.Path.{_≡_, refl}
 use lib.IntN.{pos, negsuc}
 use lib.ListN.{length, getD}
@@ -52,17 +52,52 @@ claimed (sumUp v w x) = x
 claimed (sumEven v w x) = x
 claimed (product v w x) = x
 
-abbrev wrong : List Row
-wrong =
-    -- -w for -1-w; the input copied through
-    signChange (at 5 (pos 3)) (done 5 (negsuc 2) 0)
+-- a stand-in that reports done and answers the blank word, whatever it is handed
+abbrev fixed : Flat
+fixed = refused 0
+
+-- of each operation the three stand-ins: one that refuses, one that answers a fixed word, one that copies its input through
+abbrev standIns : List Row
+standIns =
+    signChange (at 5 (pos 3)) (refused 3)
+    ∷ signChange (at 5 (pos 3)) fixed
     ∷ signChange (at 5 (pos 3)) (done 5 (pos 3) 0)
-    -- division toward zero; refuses always
-    ∷ cut (at 5 (negsuc 2)) 1 (flat 0 (negsuc 0) 0 4 (pos 1))
     ∷ cut (at 5 (pos 4)) 1 (refused 5)
-    -- the even rule; one fixed word
+    ∷ cut (at 5 (pos 4)) 1 fixed
+    ∷ cut (at 5 (pos 4)) 1 (done 5 (pos 4) 0)
+    ∷ fromPlainUp (plainAt 5 (pos 6)) 1 (refused 5)
+    ∷ fromPlainUp (plainAt 5 (pos 6)) 1 fixed
+    ∷ fromPlainUp (plainAt 5 (pos 6)) 1 (done 5 (pos 6) 0)
+    ∷ fromPlainEven (plainAt 5 (pos 6)) 1 (refused 5)
+    ∷ fromPlainEven (plainAt 5 (pos 6)) 1 fixed
+    ∷ fromPlainEven (plainAt 5 (pos 6)) 1 (done 5 (pos 6) 0)
+    ∷ toPlain (at 5 (pos 3)) (refused 6)
+    ∷ toPlain (at 5 (pos 3)) fixed
+    ∷ toPlain (at 5 (pos 3)) (done 5 (pos 3) 0)
+    ∷ toRoundBit (at 5 (pos 3)) (refused 6)
+    ∷ toRoundBit (at 5 (pos 3)) fixed
+    ∷ toRoundBit (at 5 (pos 3)) (done 5 (pos 3) 0)
+    ∷ fromRoundBit (roundBitAt 5 (pos 3) 1) (refused 6)
+    ∷ fromRoundBit (roundBitAt 5 (pos 3) 1) fixed
+    ∷ fromRoundBit (roundBitAt 5 (pos 3) 1) (done 5 (pos 3) 0)
+    ∷ sumUp (at 5 (pos 5)) (at 5 (pos 3)) (refused 4)
+    ∷ sumUp (at 5 (pos 5)) (at 5 (pos 3)) fixed
+    ∷ sumUp (at 5 (pos 5)) (at 5 (pos 3)) (done 5 (pos 5) 0)
+    ∷ sumEven (at 5 (pos 5)) (at 5 (pos 3)) (refused 4)
+    ∷ sumEven (at 5 (pos 5)) (at 5 (pos 3)) fixed
+    ∷ sumEven (at 5 (pos 5)) (at 5 (pos 3)) (done 5 (pos 5) 0)
+    ∷ product (at 5 (pos 5)) (at 5 (pos 2)) (refused 6)
+    ∷ product (at 5 (pos 5)) (at 5 (pos 2)) fixed
+    ∷ product (at 5 (pos 5)) (at 5 (pos 2)) (done 5 (pos 5) 0)
+    ∷ []
+
+-- and the mistakes that were met, or are near
+abbrev mistakes : List Row
+mistakes =
+    -- -w for -1-w; division toward zero; the even rule for the up rule
+    signChange (at 5 (pos 3)) (done 5 (negsuc 2) 0)
+    ∷ cut (at 5 (negsuc 2)) 1 (flat 0 (negsuc 0) 0 4 (pos 1))
     ∷ fromPlainUp (plainAt 5 (pos 6)) 1 (flat 0 (pos 2) 0 4 (pos 1))
-    ∷ fromPlainUp (plainAt 5 (pos 6)) 1 (flat 0 (pos 0) 0 2 (pos 0))
     -- the up rule; the digit cleared always; at depth 0 not cleared
     ∷ fromPlainEven (plainAt 5 (pos 6)) 1 (flat 0 (pos 3) 0 4 (pos 1))
     ∷ fromPlainEven (plainAt 5 (pos 7)) 1 (flat 0 (pos 2) 0 4 (pos 1))
@@ -89,6 +124,9 @@ wrong =
 
 abbrev differs : Row → Bool
 differs r = not (sameFlat (answer r) (claimed r))
+
+abbrev wrong : List Row
+wrong = standIns ++ mistakes
 
 all-wrong : all (length wrong) (λ k. differs (getD wrong k (signChange (at 5 (pos 3)) (refused 3)))) ≡ true
 unfolding firstBad fitsWidth floorBy lowest cleared digit anyBelow formatCheck wordCheck narrowerCheck answerCheck plainCheck roundBitCheck halfUnitCheck halfUnitFitted signChangeWord cutWord fromPlainUpWord evenFloor fromPlainEvenWord toPlainWord toRoundBitWord fromRoundBitWord sumUpWord sumEvenWord multiplied productWord

@@ -12,5 +12,6 @@ pub mod ExactlyOne
 pub mod Lists
 pub mod Bytes
 pub mod Parts
+mod Wrong
 mod Unique
 mod Examples

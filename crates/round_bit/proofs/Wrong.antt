@@ -2,7 +2,7 @@
 -- computed test. With the uniqueness of each contract this shuts them out of the code.
 use Prim.Native.Nat.{ℕ}
 use mathlib.Core.Bool.{Bool, true, not}
-use mathlib.Core.List.{List, [], _∷_}
+use mathlib.Core.List.{List, [], _∷_, _++_}
 use mathlib.Core.Path.{_≡_, refl}
 use lib.IntN.{pos, negsuc}
 use lib.ListN.{length, getD}
@@ -48,11 +48,52 @@ claimed (difference v w x) = x
 claimed (product v w x) = x
 claimed (fromPlain w x) = x
 
-abbrev wrong : List Row
-wrong =
-    -- refuses always; the input copied through
+-- a stand-in that reports done and answers the blank word, whatever it is handed
+abbrev fixed : Flat
+fixed = refused 0
+
+-- of each operation the three stand-ins: one that refuses, one that answers a fixed word, one that copies its input through
+abbrev standIns : List Row
+standIns =
     signChange (at 5 (pos 3) 1) (refused 3)
+    ∷ signChange (at 5 (pos 3) 1) fixed
     ∷ signChange (at 5 (pos 3) 1) (done 5 (pos 3) 1)
+    ∷ cut (at 5 (pos 4) 1) 1 (refused 5)
+    ∷ cut (at 5 (pos 4) 1) 1 fixed
+    ∷ cut (at 5 (pos 4) 1) 1 (done 5 (pos 4) 1)
+    ∷ rest (at 5 (pos 6) 1) 2 (refused 5)
+    ∷ rest (at 5 (pos 6) 1) 2 fixed
+    ∷ rest (at 5 (pos 6) 1) 2 (done 5 (pos 6) 1)
+    ∷ evenCut (at 5 (pos 6) 0) 2 (refused 5)
+    ∷ evenCut (at 5 (pos 6) 0) 2 fixed
+    ∷ evenCut (at 5 (pos 6) 0) 2 (done 5 (pos 6) 0)
+    ∷ widen (at 4 (pos 5) 1) 2 (refused 6)
+    ∷ widen (at 4 (pos 5) 1) 2 fixed
+    ∷ widen (at 4 (pos 5) 1) 2 (done 4 (pos 5) 1)
+    ∷ sum (at 5 (pos 3) 1) (at 5 (pos 4) 1) (refused 4)
+    ∷ sum (at 5 (pos 3) 1) (at 5 (pos 4) 1) fixed
+    ∷ sum (at 5 (pos 3) 1) (at 5 (pos 4) 1) (done 5 (pos 3) 1)
+    ∷ difference (at 5 (pos 5) 0) (at 5 (pos 5) 0) (refused 4)
+    ∷ difference (at 5 (pos 5) 0) (at 5 (pos 5) 0) fixed
+    ∷ difference (at 5 (pos 5) 0) (at 5 (pos 5) 0) (done 5 (pos 5) 0)
+    ∷ product (at 5 (pos 11) 1) (at 5 (pos 9) 1) (refused 6)
+    ∷ product (at 5 (pos 11) 1) (at 5 (pos 9) 1) fixed
+    ∷ product (at 5 (pos 11) 1) (at 5 (pos 9) 1) (done 5 (pos 11) 1)
+    ∷ toPlain (at 5 (pos 3) 1) (refused 8)
+    ∷ toPlain (at 5 (pos 3) 1) fixed
+    ∷ toPlain (at 5 (pos 3) 1) (done 5 (pos 3) 0)
+    ∷ fromPlain (plainAt 5 (pos 3)) (refused 3)
+    ∷ fromPlain (plainAt 5 (pos 3)) fixed
+    -- the answer of a good word is its copy; a copy of a bad one is not
+    ∷ fromPlain (plainAt 5 (pos 16)) (done 5 (pos 16) 0)
+    ∷ []
+
+-- and the mistakes that were met, or are near
+abbrev mistakes : List Row
+mistakes =
+    -- the digits turned over but for the round bit; the negated number
+    signChange (at 5 (pos 3) 1) (done 5 (negsuc 3) 1)
+    ∷ signChange (at 5 (pos 3) 1) (done 5 (negsuc 2) 0)
     -- division toward zero; the old round bit kept
     ∷ cut (at 11 (negsuc 717) 0) 2 (flat 0 (negsuc 178) 1 9 (pos 2))
     ∷ cut (at 5 (pos 4) 1) 1 (flat 0 (pos 2) 1 4 (pos 1))
@@ -74,16 +115,16 @@ wrong =
     -- a cross term dropped; the sign forgotten
     ∷ product (at 5 (pos 11) 1) (at 5 (pos 9) 1) (done 9 (pos 108) 1)
     ∷ product (at 5 (negsuc 11) 0) (at 5 (pos 9) 1) (done 9 (pos 119) 1)
-    -- the round bit dropped; 2^(n-1) let through
-    ∷ toPlain (at 5 (pos 3) 1) (done 5 (pos 3) 0)
+    -- 2^(n-1) let through; the round bit set
     ∷ toPlain (at 5 (pos 15) 1) (done 5 (pos 16) 0)
-    -- the round bit set; one fixed word
     ∷ fromPlain (plainAt 5 (pos 3)) (done 5 (pos 3) 1)
-    ∷ fromPlain (plainAt 5 (pos 3)) (done 2 (pos 0) 0)
     ∷ []
 
 abbrev differs : Row → Bool
 differs r = not (sameFlat (answer r) (claimed r))
+
+abbrev wrong : List Row
+wrong = standIns ++ mistakes
 
 all-wrong : all (length wrong) (λ k. differs (getD wrong k (toPlain (at 5 (pos 3) 1) (refused 3)))) ≡ true
 unfolding firstBad fitsWidth floorBy lowest digit digitsBelow anyBelow lowDigits formatCheck wordCheck narrowerCheck answerCheck plainCheck plainFitted roundBitCheck roundBitFitted signChangeWord cutBy restWord evenRoundBit widenWord sumWord magnitudeProduct multiplied productWord toPlainWord fromPlainWord

@@ -190,7 +190,14 @@ impl RunningSum {
                 let a = round_bit::cut(self.kept, self.depth);
                 let b = round_bit::rest(self.kept, self.depth);
                 let word = a.word;
-                self = keeping(self, b.word);
+                let rest = b.word;
+                let f = rest.format;
+                // The round bit too: without it the trace creeps.
+                let kept = RoundBitWord {
+                    number: RoundBit(rest.number.0, rest.number.1),
+                    format: f,
+                };
+                self = keeping(self, kept);
                 HandOutAnswer {
                     outcome: Outcome::Done,
                     word: word,
@@ -213,8 +220,9 @@ impl RunningSum {
             Outcome::Done => {
                 let word = self.kept;
                 let f = word.format;
+                let zero = RoundBit(0, 0);
                 let nothing = RoundBitWord {
-                    number: RoundBit(0, 0),
+                    number: zero,
                     format: f,
                 };
                 self = keeping(self, nothing);
