@@ -33,31 +33,34 @@ use Rattle.words.specs.declared.PlainWord.{PlainWord}
 use Rattle.words.specs.declared.RoundBitWord.{RoundBitWord}
 use Rattle.words.specs.declared.HalfUnitWord.{HalfUnitWord}
 
--- ---- the table: `cause n` is the cause whose number is n, for n from 1 to 12
+-- ---- the table: `cause n` is the cause whose number is n, for n from 1 to 12, and every cause is one of them
 rows : all (length causes) (λ k. eqb (causeNumber (getD causes k Width)) (suc k)) ≡ true
 unfolding firstBad
 rows = refl
 
+pub table-range : (n : ℕ) → T (inTable n) → (1 ≤ n) × (n ≤ length causes)
+table-range n t =
+    let p = and-yes (leb 1 n) (leb n (length causes)) t in
+    (leb→le 1 n (p .0), leb→le n (length causes) (p .1))
+
 pub number-of-cause : (n : ℕ) (t : T (inTable n)) → causeNumber (cause n t) ≡ n
 number-of-cause n t =
-    let p = and-yes (leb 1 n) (leb n (length causes)) t in
-    let l = leb→le 1 n (p .0) in
-    let h = leb→le n (length causes) (p .1) in
+    let r = table-range n t in
     omega (arith, eqb-true (causeNumber (cause n t)) (suc (n - 1)) (all-each (length causes) _ rows (n - 1) (omega arith)))
 
-pub cause-of-number : (c : Cause) (t : T (inTable (causeNumber c))) → cause (causeNumber c) t ≡ c
-cause-of-number Width t = refl
-cause-of-number Unit t = refl
-cause-of-number Number t = refl
-cause-of-number Mismatch t = refl
-cause-of-number Depth t = refl
-cause-of-number WidthPast t = refl
-cause-of-number UnitPast t = refl
-cause-of-number NumberPast t = refl
-cause-of-number DigitText t = refl
-cause-of-number Buffer t = refl
-cause-of-number Mark t = refl
-cause-of-number Form t = refl
+pub cause-of-number : (c : Cause) → (t : T (inTable (causeNumber c))) × (cause (causeNumber c) t ≡ c)
+cause-of-number Width = (tt, refl)
+cause-of-number Unit = (tt, refl)
+cause-of-number Number = (tt, refl)
+cause-of-number Mismatch = (tt, refl)
+cause-of-number Depth = (tt, refl)
+cause-of-number WidthPast = (tt, refl)
+cause-of-number UnitPast = (tt, refl)
+cause-of-number NumberPast = (tt, refl)
+cause-of-number DigitText = (tt, refl)
+cause-of-number Buffer = (tt, refl)
+cause-of-number Mark = (tt, refl)
+cause-of-number Form = (tt, refl)
 
 -- ---- what "done" says of a test, and of two and three outcomes
 pub refused-not-done : {c : Cause} → Refused c ≡ Done → ⊥
