@@ -1,1 +1,3 @@
 mod Unique
+pub mod Chains
+pub mod Demand3
