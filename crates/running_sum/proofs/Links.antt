@@ -37,7 +37,7 @@ pub data Links : RunningSum → List Answered → RunningSum → Type 0 where
   link : {s t u : RunningSum} {a : Answered} {more : List Answered} → Meets s (a .call) (a .outcome) (a .word) t → Links t more u → Links s (a ∷ more) u
 
 -- a link is the definition's step
-meets-step : (s : RunningSum) (c : Call) (o : Outcome) (v : RoundBitWord) (t : RunningSum) → Meets s c o v t → (o ≡ stepOf s c .outcome) × (v ≡ stepOf s c .word) × (t ≡ stepOf s c .sum)
+pub meets-step : (s : RunningSum) (c : Call) (o : Outcome) (v : RoundBitWord) (t : RunningSum) → Meets s c o v t → (o ≡ stepOf s c .outcome) × (v ≡ stepOf s c .word) × (t ≡ stepOf s c .sum)
 meets-step s (put w) o v t m = (ap (λ (a : PutAnswer). a .outcome) (m .0), m .1 ∙ sym (put-blank s w), ap (λ (a : PutAnswer). a .sum) (m .0))
 meets-step s handOut o v t m = (ap (λ (a : HandOutAnswer). a .outcome) m, ap (λ (a : HandOutAnswer). a .word) m, ap (λ (a : HandOutAnswer). a .sum) m)
 meets-step s empty o v t m = (ap (λ (a : EmptyAnswer). a .outcome) m, ap (λ (a : EmptyAnswer). a .word) m, ap (λ (a : EmptyAnswer). a .sum) m)

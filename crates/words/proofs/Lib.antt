@@ -3,5 +3,6 @@ pub mod Formats
 pub mod Rights
 pub mod Operands
 pub mod Arms
+pub mod Flat
 mod Unique
 mod Examples
