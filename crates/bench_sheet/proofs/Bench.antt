@@ -1,154 +1,168 @@
--- Document 01's bench sheet, P1 to P14: one table, and one proof over it. A line of the sheet is a row; each of its checks compares an entire
--- answer with what the sheet says: the number of the outcome, number, round bit, width and unit, the blank word where it is refused. Widths
--- and units that the sheet leaves to the rules are written as the rules have them, n - d and e + d.
-use Prim.Native.Nat.{ℕ, _+_, _-_}
+-- Document 01's bench sheet, P1 to P14: the table is right by the definitions, and whatever the
+-- contracts of the code admit is what the table has. P7 names no word, and is shown of every one.
+-- Assumes nothing.
+use Prim.Native.Nat.{ℕ}
 use mathlib.Core.Bool.{Bool, true, _&&_}
 use mathlib.Core.List.{List, [], _∷_}
-use mathlib.Core.Path.{_≡_, refl}
+use mathlib.Core.Path.{_≡_, refl, ap, _∙_}
 use lib.Dec.{eqb}
-use lib.IntN.{ℤ, pos, negsuc, _*ℤ_}
+use lib.IntN.{ℤ, pos, _*ℤ_}
 use lib.ListN.{length}
-use Rattle.integers.specs.Numbers.{eqZ, fitsWidth, floorBy, lowest, cleared, digit, digitsBelow, anyBelow, lowDigits}
+use borrow.Author.Tests.{eqb-true}
+use Rattle.integers.specs.Numbers.{fitsWidth, floorBy, lowest, cleared}
+use Rattle.integers.specs.Numbers.{digit, digitsBelow, anyBelow, lowDigits}
 use Rattle.integers.specs.Bytes.{sameBytes}
+use Rattle.integers.proofs.Kit.{and-both}
+use Rattle.integers.proofs.Width.{eqZ-same}
+use Rattle.integers.proofs.Bytes.{same-bytes}
 use Rattle.words.specs.Words.{value}
 use Rattle.words.specs.Refusals.{numberOf, formatCheck, wordCheck, lentAfter, writeAnswer}
 use Rattle.words.specs.Formats.{format, narrowerCheck, answerCheck}
 use Rattle.words.specs.Plain.{plainCheck}
 use Rattle.words.specs.RoundBit.{roundBitValue, roundBitCheck, roundBitFitted}
 use Rattle.words.specs.HalfUnit.{halfUnitCheck, halfUnitFitted}
-use Rattle.words.specs.declared.PlainWord.{PlainWord}
+use Rattle.words.specs.Flat.{Flat, flat, flatRoundBit, flatHalfUnit, sameFlat}
+use Rattle.words.specs.declared.Cause.the-variants.{Depth, UnitPast}
+use Rattle.words.specs.declared.Outcome.the-variants.{Done, Refused}
+use Rattle.words.specs.declared.Format.{Format}
 use Rattle.words.specs.declared.RoundBitWord.{RoundBitWord}
-use Rattle.words.specs.declared.HalfUnitWord.{HalfUnitWord}
-use Rattle.words.specs.Flat.{Flat, flat, laidFlat, flatRoundBit, flatHalfUnit, sameFlat, plainAt, roundBitAt, halfUnitAt, done, refused}
-use Rattle.round_bit.specs.Cuts.{signChangeWord, cutBy, cutOf, restWord, restOf, evenRoundBit, evenCutOf, widenWord, widenOf}
-use Rattle.round_bit.specs.Arithmetic.{sumWord, sumOf, differenceOf, magnitudeProduct, multiplied, productWord, productOf}
-use Rattle.half_unit.specs.Conversions.{fromPlainUpWord, fromPlainUpOf, evenFloor, fromPlainEvenWord, fromPlainEvenOf}
-use Rattle.half_unit.specs.Arithmetic.{sumUpWord, sumUpOf, sumEvenWord, sumEvenOf}
-use Rattle.half_unit.specs.Arithmetic as Half
-use Rattle.digit_text.specs.Digits.{signedDigit, byteOf, byteAt, text as textOf, writeCheck, writeOf, bufferOf}
+use Rattle.words.specs.declared.WriteAnswer.{WriteAnswer}
+use Rattle.words.proofs.Flat.{same-flat}
+use Rattle.round_bit.specs.declared.CutAnswer.{CutAnswer}
+use Rattle.round_bit.specs.Cuts.{signChangeWord, cutBy, cutWord, cutCheck, cutOf}
+use Rattle.round_bit.specs.Cuts.{restWord, evenRoundBit, widenWord}
+use Rattle.round_bit.specs.Arithmetic.{sumWord, magnitudeProduct, multiplied, productWord}
+use Rattle.round_bit.proofs.Checks.{word-outcome}
+use Rattle.half_unit.specs.Conversions.{fromPlainUpWord, evenFloor, fromPlainEvenWord}
+use Rattle.half_unit.specs.Arithmetic.{sumUpWord, sumEvenWord}
+use Rattle.half_unit.specs.Arithmetic.{multiplied as halfMultiplied, productWord as halfProductWord}
+use Rattle.digit_text.specs.Digits.{signedDigit, byteOf, byteAt, text as textOf}
+use Rattle.digit_text.specs.Digits.{writeCheck, writeOf, bufferOf}
 use Rattle.running_sum.specs.declared.RunningSum.{RunningSum}
-use Rattle.running_sum.specs.Steps.{Call, put, handOut, depthCheck, openAnswer, openOf, stepped, putCheck, stepOf}
-
--- a call, the number of its outcome, the word that it hands back (the blank one of a put), and what is then kept
-data Called : Type 0 where
-  called : Call → Flat → Flat → Called
-
-data Check : Type 0 where
-  sum difference product : RoundBitWord → RoundBitWord → Flat → Check
-  cut rest evenCut widen : RoundBitWord → ℕ → Flat → Check
-  worth : RoundBitWord → ℤ → Check
-  text : RoundBitWord → List ℕ → Check
-  up even : PlainWord → ℕ → Flat → Check
-  sumUp sumEven halfProduct : HalfUnitWord → HalfUnitWord → Flat → Check
-  run : ℕ → ℤ → ℕ → List Called → Check
-
-abbrev laidWord : RoundBitWord → Flat
-laidWord w = flat 0 (w .number .0) (w .number .1) (w .format .width) (w .format .unit)
-
-abbrev ran : RunningSum → List Called → Bool
-ran s [] = true
-ran s (called c answer kept ∷ more) =
-    let t = stepOf s c in
-    sameFlat (laidFlat (t .outcome) (t .word .number .0) (t .word .number .1) (t .word .format)) answer && sameFlat (laidWord (t .sum .kept)) kept
-    && ran (t .sum) more
-
-abbrev right : Check → Bool
-right (sum x y a) = sameFlat (flatRoundBit (sumOf x y)) a
-right (difference x y a) = sameFlat (flatRoundBit (differenceOf x y)) a
-right (product x y a) = sameFlat (flatRoundBit (productOf x y)) a
-right (cut w d a) =
-    let r = cutOf w d in
-    sameFlat (laidFlat (r .outcome) (r .word .number .0) (r .word .number .1) (r .word .format)) a
-right (rest w d a) = sameFlat (flatRoundBit (restOf w d)) a
-right (evenCut w d a) =
-    let r = evenCutOf w d in
-    sameFlat (laidFlat (r .outcome) (r .word .number .0) (r .word .number .1) (r .word .format)) a
-right (widen w d a) = sameFlat (flatRoundBit (widenOf w d)) a
-right (worth w units) = eqZ (roundBitValue w) (pos 2 *ℤ units)
-right (text w t) =
-    let a = writeOf w (length t) in
-    eqb (numberOf (a .outcome)) 0 && eqb (a .count) (length t) && sameBytes (bufferOf w t) t && sameBytes (textOf w) t
-right (up w d a) = sameFlat (flatHalfUnit (fromPlainUpOf w d)) a
-right (even w d a) = sameFlat (flatHalfUnit (fromPlainEvenOf w d)) a
-right (sumUp x y a) = sameFlat (flatHalfUnit (sumUpOf x y)) a
-right (sumEven x y a) = sameFlat (flatHalfUnit (sumEvenOf x y)) a
-right (halfProduct x y a) = sameFlat (flatHalfUnit (Half.productOf x y)) a
-right (run n e d calls) =
-    let a = openOf n e d in
-    eqb (numberOf (a .outcome)) 0 && sameFlat (laidWord (a .sum .kept)) (done n (pos 0) 0) && ran (a .sum) calls
-
-abbrev holds : List Check → Bool
-holds [] = true
-holds (c ∷ more) = right c && holds more
-
-abbrev hold : List (List Check) → Bool
-hold [] = true
-hold (row ∷ more) = holds row && hold more
-
--- `-+-0+0-0+-0`
-abbrev text-718 : List ℕ
-text-718 = 45 ∷ 43 ∷ 45 ∷ 48 ∷ 43 ∷ 48 ∷ 45 ∷ 48 ∷ 43 ∷ 45 ∷ 48 ∷ []
-
--- "Width 5, unit 0, unless said."
-abbrev five : ℤ → ℕ → RoundBitWord
-five = roundBitAt 5
-
-abbrev half : ℤ → HalfUnitWord
-half = halfUnitAt 5
-
--- a put's answer
-abbrev none : Flat
-none = refused 0
-
-abbrev bench : List (List Check)
-bench =
-    -- P1 (3,1)+(4,1) = (8,1). P2 (15,0)+(0,1) = (15,1). P3 (15,0)+(1,0): 8.
-    (sum (five (pos 3) 1) (five (pos 4) 1) (done 5 (pos 8) 1) ∷ [])
-    ∷ (sum (five (pos 15) 0) (five (pos 0) 1) (done 5 (pos 15) 1) ∷ [])
-    ∷ (sum (five (pos 15) 0) (five (pos 1) 0) (refused 8) ∷ [])
-    -- P4 (-16,0)+(-1,1): 8, though the value -16 would fit.
-    ∷ (sum (five (negsuc 15) 0) (five (negsuc 0) 1) (refused 8) ∷ worth (sumWord (five (negsuc 15) 0) (five (negsuc 0) 1)) (negsuc 15) ∷ [])
-    -- P5 (5,0)-(5,0) = (-1,1), value 0.
-    ∷ (difference (five (pos 5) 0) (five (pos 5) 0) (done 5 (negsuc 0) 1) ∷ worth (differenceOf (five (pos 5) 0) (five (pos 5) 0) .word) (pos 0) ∷ [])
-    -- P6 width 11, (-718,0) cut by 2 = (-180,1), rest (-2,0). Digit text before: `-+-0+0-0+-0`.
-    ∷ (cut (roundBitAt 11 (negsuc 717) 0) 2 (flat 0 (negsuc 179) 1 (11 - 2) (pos 2))
-    ∷ rest (roundBitAt 11 (negsuc 717) 0) 2 (done 11 (negsuc 1) 0)
-    ∷ text (roundBitAt 11 (negsuc 717) 0) text-718
-    ∷ [])
-    -- P7 width 3 cut by 1 is done; cut by 2 is 5. It names no word: (0,0) is taken, whose cut is (0,0)
-    ∷ (cut (roundBitAt 3 (pos 0) 0) 1 (flat 0 (pos 0) 0 (3 - 1) (pos 1)) ∷ cut (roundBitAt 3 (pos 0) 0) 2 (refused 5) ∷ [])
-    -- P8 width 4, (5,1) widened by 2 = (23,1).
-    ∷ (widen (roundBitAt 4 (pos 5) 1) 2 (flat 0 (pos 23) 1 (4 + 2) (negsuc 1)) ∷ [])
-    -- P9 (11,1) times (9,1) = (119,1), width 9; (-12,0) times (9,1) = (-120,0); (-1,1) times (9,1) = (-1,1).
-    ∷ (product (five (pos 11) 1) (five (pos 9) 1) (done 9 (pos 119) 1)
-    ∷ product (five (negsuc 11) 0) (five (pos 9) 1) (done 9 (negsuc 119) 0)
-    ∷ product (five (negsuc 0) 1) (five (pos 9) 1) (done 9 (negsuc 0) 1)
-    ∷ [])
-    -- P10 plain 6, depth 1, to half-unit: up 3, even 2. Plain 7: 3 by both.
-    ∷ (up (plainAt 5 (pos 6)) 1 (flat 0 (pos 3) 0 (5 - 1) (pos 1))
-    ∷ even (plainAt 5 (pos 6)) 1 (flat 0 (pos 2) 0 (5 - 1) (pos 1))
-    ∷ up (plainAt 5 (pos 7)) 1 (flat 0 (pos 3) 0 (5 - 1) (pos 1))
-    ∷ even (plainAt 5 (pos 7)) 1 (flat 0 (pos 3) 0 (5 - 1) (pos 1))
-    ∷ [])
-    -- P11 half-unit 5+3: up 9, even 8. P12 half-unit 5 times 2 = 27.
-    ∷ (sumUp (half (pos 5)) (half (pos 3)) (done 5 (pos 9) 0) ∷ sumEven (half (pos 5)) (half (pos 3)) (done 5 (pos 8) 0) ∷ [])
-    ∷ (halfProduct (half (pos 5)) (half (pos 2)) (flat 0 (pos 27) 0 (5 + 5) (negsuc 0)) ∷ [])
-    -- P13 (6,0) even cut by 2 = (1,1); (2,0) gives (0,0).
-    ∷ (evenCut (five (pos 6) 0) 2 (flat 0 (pos 1) 1 (5 - 2) (pos 2)) ∷ evenCut (five (pos 2) 0) 2 (flat 0 (pos 0) 0 (5 - 2) (pos 2)) ∷ [])
-    -- P14 running sum N = 8, d = 2: put (3,0), hand out (0,1), kept (-1,0); put (3,0), hand out (0,1), kept (-2,0); put (0,1), hand out (-1,1),
-    -- kept (-2,1).
-    ∷ (run 8 (pos 0) 2
-    (called (put (roundBitAt 8 (pos 3) 0)) none (done 8 (pos 3) 0)
-    ∷ called handOut (flat 0 (pos 0) 1 (8 - 2) (pos 2)) (done 8 (negsuc 0) 0)
-    ∷ called (put (roundBitAt 8 (pos 3) 0)) none (done 8 (pos 2) 0)
-    ∷ called handOut (flat 0 (pos 0) 1 (8 - 2) (pos 2)) (done 8 (negsuc 1) 0)
-    ∷ called (put (roundBitAt 8 (pos 0) 1)) none (done 8 (negsuc 1) 1)
-    ∷ called handOut (flat 0 (negsuc 0) 1 (8 - 2) (pos 2)) (done 8 (negsuc 1) 1)
-    ∷ [])
-    ∷ [])
-    ∷ []
+use Rattle.running_sum.specs.declared.OpenAnswer.{OpenAnswer}
+use Rattle.running_sum.specs.Steps.{depthCheck, openAnswer, openOf, stepped, putCheck, stepOf}
+use Rattle.running_sum.proofs.Links.{meets-step}
+use Rattle.bench_sheet.specs.Bench.{flatOf, flatCut, flatEvenCut, flatWord, Called, called}
+use Rattle.bench_sheet.specs.Bench.{Check, sum, difference, product, cut, rest, evenCut}
+use Rattle.bench_sheet.specs.Bench.{widen, up, even, sumUp, sumEven, halfProduct}
+use Rattle.bench_sheet.specs.Bench.{worth, fits, text, run, ran, right, every, bench}
+use Rattle.bench_sheet.specs.Met.{Answers, Runs, Met, Each, EveryCut}
 
 -- there is a row for each of P1 to P14, and every check of every row holds
-bench-holds : (length bench ≡ 14) × (hold bench ≡ true)
-unfolding fitsWidth floorBy lowest cleared digit digitsBelow anyBelow lowDigits value formatCheck wordCheck narrowerCheck answerCheck plainCheck roundBitCheck roundBitFitted halfUnitCheck halfUnitFitted lentAfter writeAnswer signChangeWord cutBy restWord evenRoundBit widenWord sumWord magnitudeProduct multiplied productWord fromPlainUpWord evenFloor fromPlainEvenWord sumUpWord sumEvenWord Half.multiplied Half.productWord signedDigit byteOf byteAt textOf writeCheck writeOf bufferOf depthCheck openAnswer openOf stepped putCheck stepOf
+bench-holds : (length bench ≡ 14) × (every (every right) bench ≡ true)
+unfolding fitsWidth floorBy lowest cleared digit digitsBelow anyBelow lowDigits value formatCheck
+    wordCheck narrowerCheck answerCheck plainCheck roundBitCheck roundBitFitted halfUnitCheck
+    halfUnitFitted lentAfter writeAnswer signChangeWord cutBy restWord evenRoundBit widenWord
+    sumWord magnitudeProduct multiplied productWord fromPlainUpWord evenFloor fromPlainEvenWord
+    sumUpWord sumEvenWord halfMultiplied halfProductWord signedDigit byteOf byteAt textOf
+    writeCheck writeOf bufferOf depthCheck openAnswer openOf stepped putCheck stepOf
 bench-holds = (refl, refl)
+
+-- ---- from the definitions to the contracts: a contract says that the answer is the definition's
+three-hold : (a b c : Bool) → (a && b && c) ≡ true → (a ≡ true) × (b ≡ true) × (c ≡ true)
+three-hold a b c h =
+    let p = and-both (a && b) c h in
+    let q = and-both a b (p .0) in
+    (q .0, q .1, p .1)
+
+same-answers : {X E : Type 0} (lay : X → Flat) {o : X} (a : Flat) →
+    sameFlat (lay o) a ≡ true → Answers {E = E} lay (λ r e. r ≡ o) a
+same-answers lay {o} a h r e p = ap lay p ∙ same-flat (lay o) a h
+
+text-met : (w : RoundBitWord) (lent then : List ℕ) (count : ℕ) →
+    right (text w lent then count) ≡ true → Met (text w lent then count)
+text-met w lent then count h κs before after r l p =
+    let a = writeOf w (length lent) in
+    let b = bufferOf w lent in
+    let o = numberOf (a .outcome) in
+    let holds = three-hold (eqb o 0) (eqb (a .count) count) (sameBytes b then) h in
+    let same : r ≡ a = p .0 ∙ ap (λ (b : List ℕ). writeOf w (length b)) l in (
+      ap (λ (r : WriteAnswer). numberOf (r .outcome)) same ∙ eqb-true o 0 (holds .0),
+      ap (λ (r : WriteAnswer). r .count) same ∙ eqb-true (a .count) count (holds .1),
+      p .1 ∙ ap (bufferOf w) l ∙ same-bytes b then (holds .2),
+    )
+
+ran-runs : (s : RunningSum) (calls : List Called) → ran s calls ≡ true → Runs s calls
+ran-runs s [] h = tt
+ran-runs s (called c answer kept ∷ more) h = λ o w t m.
+    let u = stepOf s c in
+    let a = flatOf (u .outcome) (u .word) in
+    let k = flatWord (u .sum .kept) in
+    let p = meets-step s c o w t m in
+    let holds = three-hold (sameFlat a answer) (sameFlat k kept) (ran (u .sum) more) h in
+    let laid : flatOf o w ≡ a = λ i. flatOf (p .0 i) (p .1 i) in (
+      laid ∙ same-flat a answer (holds .0),
+      ap (λ (s : RunningSum). flatWord (s .kept)) (p .2) ∙ same-flat k kept (holds .1),
+      ran-runs t more (ap (λ (s : RunningSum). ran s more) (p .2) ∙ holds .2),
+    )
+
+run-met : (n : ℕ) (e : ℤ) (d : ℕ) (calls : List Called) →
+    right (run n e d calls) ≡ true → Met (run n e d calls)
+run-met n e d calls h a p =
+    let b = openOf n e d in
+    let o = numberOf (b .outcome) in
+    let k = flatWord (b .sum .kept) in
+    let nothing = flat 0 (pos 0) 0 n e in
+    let holds = three-hold (eqb o 0) (sameFlat k nothing) (ran (b .sum) calls) h in (
+      ap (λ (a : OpenAnswer). numberOf (a .outcome)) p ∙ eqb-true o 0 (holds .0),
+      ap (λ (a : OpenAnswer). flatWord (a .sum .kept)) p ∙ same-flat k nothing (holds .1),
+      ran-runs (a .sum) calls (ap (λ (a : OpenAnswer). ran (a .sum) calls) p ∙ holds .2),
+    )
+
+right-met : (c : Check) → right c ≡ true → Met c
+right-met (sum x y a) h = same-answers flatRoundBit a h
+right-met (difference x y a) h = same-answers flatRoundBit a h
+right-met (product x y a) h = same-answers flatRoundBit a h
+right-met (cut w d a) h = same-answers flatCut a h
+right-met (rest w d a) h = same-answers flatRoundBit a h
+right-met (evenCut w d a) h = same-answers flatEvenCut a h
+right-met (widen w d a) h = same-answers flatRoundBit a h
+right-met (up w d a) h = same-answers flatHalfUnit a h
+right-met (even w d a) h = same-answers flatHalfUnit a h
+right-met (sumUp x y a) h = same-answers flatHalfUnit a h
+right-met (sumEven x y a) h = same-answers flatHalfUnit a h
+right-met (halfProduct x y a) h = same-answers flatHalfUnit a h
+right-met (worth w units) h = eqZ-same (roundBitValue w) (pos 2 *ℤ units) h
+right-met (fits x n) h = h
+right-met (text w lent then count) h = text-met w lent then count h
+right-met (run n e d calls) h = run-met n e d calls h
+
+every-each : {A : Type 0} (test : A → Bool) {P : A → Type 0} →
+    ((x : A) → test x ≡ true → P x) → (xs : List A) → every test xs ≡ true → Each P xs
+every-each test each [] h = tt
+every-each test each (x ∷ more) h =
+    let p = and-both (test x) (every test more) h in
+    (each x (p .0), every-each test each more (p .1))
+
+-- every check of every row, of the code: whatever meets the contracts is what the table has
+bench-met : Each (Each Met) bench
+bench-met = every-each (every right) (every-each right right-met) bench (bench-holds .1)
+
+-- ---- P7 of every word: a right word's cut is refused as its format is
+cut-outcome : (w : RoundBitWord) (d : ℕ) {f : Format} →
+    roundBitCheck w ≡ Done → w .format ≡ f → cutOf w d .outcome ≡ narrowerCheck f d
+cut-outcome w d e g = word-outcome (cutCheck w d) (cutWord w d) ∙ rw (e, g)
+
+width-3-cuts : (w : RoundBitWord) → roundBitCheck w ≡ Done → w .format ≡ format 3 (pos 0) →
+    (cutOf w 1 .outcome ≡ Done) × (cutOf w 2 .outcome ≡ Refused Depth)
+unfolding narrowerCheck
+width-3-cuts w e g = (cut-outcome w 1 e g, cut-outcome w 2 e g)
+
+-- at the coarsest unit there is none for the cut by 1
+width-3-cuts-at-127 : (w : RoundBitWord) → roundBitCheck w ≡ Done → w .format ≡ format 3 (pos 127) →
+    (cutOf w 1 .outcome ≡ Refused UnitPast) × (cutOf w 2 .outcome ≡ Refused Depth)
+unfolding narrowerCheck
+width-3-cuts-at-127 w e g = (cut-outcome w 1 e g, cut-outcome w 2 e g)
+
+-- the same of the code, by the numbers of the outcomes
+every-cut : (f : Format) (d : ℕ) → EveryCut f d (numberOf (narrowerCheck f d))
+every-cut f d w e g r x p =
+    ap (λ (a : CutAnswer). numberOf (a .outcome)) p ∙ ap numberOf (cut-outcome w d e g)
+
+width-3-cuts-met : EveryCut (format 3 (pos 0)) 1 0 × EveryCut (format 3 (pos 0)) 2 5
+unfolding narrowerCheck
+width-3-cuts-met = (every-cut (format 3 (pos 0)) 1, every-cut (format 3 (pos 0)) 2)
+
+width-3-cuts-at-127-met : EveryCut (format 3 (pos 127)) 1 7 × EveryCut (format 3 (pos 127)) 2 5
+unfolding narrowerCheck
+width-3-cuts-at-127-met = (every-cut (format 3 (pos 127)) 1, every-cut (format 3 (pos 127)) 2)

@@ -2,8 +2,8 @@
 //
 // A line is the example's name, the number of the outcome, and then the word: number, round bit, width
 // and unit. A running sum's line ends with what is kept; a file's line has kind, width, unit and count.
-// The expected output was written by hand from document 01. The table of P1 to P14 and its proof are in
-// proofs/Bench.antt.
+// The expected output was written by hand from document 01. The table of P1 to P14 is in specs/Bench.antt,
+// what it says of the code in specs/Met.antt, and the proof of both in proofs/Bench.antt.
 use libc::STDOUT_FILENO;
 use running_sum::RunningSum;
 use words::Format;
