@@ -39,7 +39,7 @@ abbrev pub Answers : {X E B : Type 0} → (X → B) → (X → E → Type 0) →
 Answers {X} {E} read post b = (r : X) (e : E) → post r e → read r ≡ b
 
 -- each call is made on the sum that came back from the call before; whatever meets the contract of
--- the call's method answers what the table has, and keeps it
+-- the call's method, which is `Meets`, answers and keeps what the table has
 abbrev pub Runs : RunningSum → List Called → Type 0
 Runs s [] = Unit {0}
 Runs s (called c answer kept ∷ more) =
