@@ -1,0 +1,125 @@
+/* Every function of frostuldi.h called once from C, and one refusal of each type of answer. What each must answer was
+ * worked out by hand from document 01. No right answer is all zeros: so a function that answers nothing is seen. */
+#include "frostuldi.h"
+
+#include <stdio.h>
+#include <string.h>
+
+static int failed;
+#define HOLDS(test) ((test) ? (void)0 : (void)(failed = 1, puts("calls: does not hold: " #test)))
+
+/* Words: the number, the round bit of those that have one, the width, the unit. */
+static frost_plain p(int64_t number, uint32_t width, int32_t unit)
+{
+    return (frost_plain){.number = number, .width = width, .unit = unit};
+}
+static frost_half_unit h(int64_t number, uint32_t width, int32_t unit)
+{
+    return (frost_half_unit){.number = number, .width = width, .unit = unit};
+}
+static frost_round_bit rb(int64_t number, uint8_t round, uint32_t width, int32_t unit)
+{
+    return (frost_round_bit){.number = number, .width = width, .unit = unit, .round = round};
+}
+static frost_running_sum keeps(frost_round_bit kept) { return (frost_running_sum){.kept = kept, .depth = 2}; }
+
+/* Is this the answer? Field by field, since what lies between fields may be anything. */
+static int plain(frost_plain_answer a, frost_plain w, uint32_t refusal)
+{
+    return a.word.number == w.number && a.word.width == w.width && a.word.unit == w.unit && a.refusal == refusal;
+}
+static int half_unit(frost_half_unit_answer a, frost_half_unit w, uint32_t refusal)
+{
+    return a.word.number == w.number && a.word.width == w.width && a.word.unit == w.unit && a.refusal == refusal;
+}
+static int same(frost_round_bit v, frost_round_bit w)
+{
+    return v.number == w.number && v.round == w.round && v.width == w.width && v.unit == w.unit;
+}
+static int round_bit(frost_round_bit_answer a, frost_round_bit w, uint32_t refusal)
+{
+    return same(a.word, w) && a.refusal == refusal;
+}
+static int sum(frost_sum_answer a, frost_round_bit kept, frost_round_bit w, uint32_t refusal)
+{
+    return same(a.sum.kept, kept) && a.sum.depth == 2 && same(a.word, w) && a.refusal == refusal;
+}
+static int written(frost_written a, uint64_t bytes, uint32_t refusal)
+{
+    return a.bytes == bytes && a.refusal == refusal;
+}
+static int head(frost_file_head a, uint32_t kind, uint32_t width, int32_t unit, uint32_t count, uint32_t refusal)
+{
+    return a.kind == kind && a.width == width && a.unit == unit && a.count == count && a.refusal == refusal;
+}
+
+static void round_bit_words(void)
+{
+    HOLDS(round_bit(frost_round_bit_sign_change(rb(5, 1, 5, -3)), rb(-6, 0, 5, -3), 0));
+    HOLDS(round_bit(frost_round_bit_cut(rb(-718, 0, 11, 3), 2), rb(-180, 1, 9, 5), 0)); /* P6 */
+    HOLDS(round_bit(frost_round_bit_rest(rb(-718, 1, 11, 3), 2), rb(-2, 1, 11, 3), 0)); /* P6, with round bit 1 */
+    HOLDS(round_bit(frost_round_bit_even_cut(rb(10, 0, 5, 1), 2), rb(2, 0, 3, 3), 0)); /* the cut is (2,1) */
+    HOLDS(round_bit(frost_round_bit_widen(rb(5, 1, 4, 3), 2), rb(23, 1, 6, 1), 0)); /* P8 */
+    HOLDS(round_bit(frost_round_bit_sum(rb(3, 1, 5, -2), rb(4, 1, 5, -2)), rb(8, 1, 5, -2), 0)); /* P1 */
+    HOLDS(round_bit(frost_round_bit_sum(rb(15, 0, 5, 0), rb(1, 0, 5, 0)), rb(0, 0, 2, 0), 8)); /* P3 */
+    HOLDS(round_bit(frost_round_bit_difference(rb(5, 0, 5, 1), rb(3, 0, 5, 1)), rb(1, 1, 5, 1), 0)); /* (5,0)+(-4,1) */
+    HOLDS(round_bit(frost_round_bit_product(rb(11, 1, 5, 1), rb(9, 1, 6, 2)), rb(119, 1, 10, 3), 0)); /* P9, wider */
+    HOLDS(plain(frost_round_bit_to_plain(rb(14, 1, 5, -2)), p(15, 5, -2), 0));
+    HOLDS(plain(frost_round_bit_to_plain(rb(15, 1, 5, -2)), p(0, 2, 0), 8)); /* a line of the bench sheet */
+    HOLDS(round_bit(frost_round_bit_from_plain(p(7, 5, 4)), rb(7, 0, 5, 4), 0));
+}
+
+static void half_unit_words(void)
+{
+    HOLDS(half_unit(frost_half_unit_sign_change(h(5, 5, 3)), h(-6, 5, 3), 0));
+    HOLDS(half_unit(frost_half_unit_cut(h(13, 6, 1), 2), h(3, 4, 3), 0));
+    HOLDS(half_unit(frost_half_unit_from_plain_up(p(6, 5, 1), 1), h(3, 4, 2), 0)); /* P10 */
+    HOLDS(half_unit(frost_half_unit_from_plain_even(p(6, 5, 1), 1), h(2, 4, 2), 0)); /* P10 */
+    HOLDS(plain(frost_half_unit_to_plain(h(5, 5, 3)), p(11, 6, 2), 0));
+    HOLDS(round_bit(frost_half_unit_to_round_bit(h(5, 5, 3)), rb(11, 0, 6, 2), 0));
+    HOLDS(half_unit(frost_half_unit_from_round_bit(rb(5, 1, 5, 3)), h(11, 6, 2), 0));
+    HOLDS(half_unit(frost_half_unit_sum_up(h(5, 5, 3), h(3, 5, 3)), h(9, 5, 3), 0)); /* P11 */
+    HOLDS(half_unit(frost_half_unit_sum_even(h(5, 5, 3), h(3, 5, 3)), h(8, 5, 3), 0)); /* P11 */
+    HOLDS(half_unit(frost_half_unit_product(h(5, 5, 3), h(2, 6, 4)), h(27, 11, 6), 0)); /* P12, wider */
+    HOLDS(half_unit(frost_half_unit_product(h(5, 32, 0), h(2, 32, 0)), h(0, 2, 0), 6)); /* a line of the bench sheet */
+}
+
+/* The second put of P14, at another unit. */
+static void running_sums(void)
+{
+    frost_round_bit blank = rb(0, 0, 2, 0);
+    HOLDS(sum(frost_running_sum_open(8, -5, 2), rb(0, 0, 8, -5), blank, 0));
+    HOLDS(sum(frost_running_sum_put(keeps(rb(-1, 0, 8, -5)), rb(3, 0, 8, -5)), rb(2, 0, 8, -5), blank, 0));
+    HOLDS(sum(frost_running_sum_put(keeps(rb(-1, 0, 8, -5)), rb(3, 0, 9, -5)), rb(-1, 0, 8, -5), blank, 4));
+    HOLDS(sum(frost_running_sum_hand_out(keeps(rb(2, 0, 8, -5))), rb(-2, 0, 8, -5), rb(0, 1, 6, -3), 0));
+    HOLDS(sum(frost_running_sum_empty(keeps(rb(-2, 1, 8, -5))), rb(0, 0, 8, -5), rb(-2, 1, 8, -5), 0));
+}
+
+/* P6's digit text, and document 01's file with its listing. Past what is written every buffer keeps its byte. */
+static void texts_and_files(void)
+{
+    static const uint8_t lent[] = {0x52, 0x4E, 0x42, 1, 0, 1, 5, 0xFE, 2, 0, 0, 0,
+                                   0x0B, 0, 0, 0, 1, 0xFF, 0xFF, 0xFF, 0xFF, 1};
+    static const char listing[] = "RN 5 -2 2\n0 11 1 24\n1 -1 1 0\n";
+    uint8_t text[] = "????????????????????????????????", file[32] = {[22] = 7}, rounds[] = {7, 7, 7};
+    int32_t numbers[] = {7, 7, 7};
+    HOLDS(written(frost_digit_text_write(rb(-718, 0, 11, 3), text, 10), 0, 10) && text[0] == '?');
+    HOLDS(written(frost_digit_text_write(rb(-718, 0, 11, 3), text, 32), 11, 0));
+    HOLDS(memcmp(text, "-+-0+0-0+-0?", 12) == 0);
+    HOLDS(round_bit(frost_digit_text_read((const uint8_t *)"+-", 2, 3), rb(1, 0, 2, 3), 0));
+    HOLDS(head(frost_file_read(lent, 11, numbers, 3, rounds, 3), 0, 2, 0, 0, 12) && numbers[0] == 7 && rounds[0] == 7);
+    HOLDS(head(frost_file_read(lent, 22, numbers, 3, rounds, 3), 1, 5, -2, 2, 0));
+    HOLDS(numbers[0] == 11 && numbers[1] == -1 && numbers[2] == 7 && rounds[0] == 1 && rounds[1] == 1 && rounds[2] == 7);
+    HOLDS(written(frost_file_write(1, 5, -2, numbers, 2, rounds, 2, file, 32), 22, 0));
+    HOLDS(memcmp(file, lent, 22) == 0 && file[22] == 7);
+    HOLDS(written(frost_listing_text(lent, 22, text, 32), 29, 0) && memcmp(text, listing, 29) == 0 && text[29] == '?');
+}
+
+int main(void)
+{
+    round_bit_words();
+    half_unit_words();
+    running_sums();
+    texts_and_files();
+    return failed;
+}
