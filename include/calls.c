@@ -115,11 +115,40 @@ static void texts_and_files(void)
     HOLDS(written(frost_listing_text(lent, 22, text, 32), 29, 0) && memcmp(text, listing, 29) == 0 && text[29] == '?');
 }
 
+/* What the header says of the whole library, tried at both sides of each limit. */
+static void limits(void)
+{
+    static int32_t numbers[FROST_MOST_RECORDS + 1];
+    static uint8_t rounds[FROST_MOST_RECORDS + 1], file[FROST_LONGEST_FILE + 1], text[FROST_LONGEST_LISTING];
+    size_t most = FROST_MOST_RECORDS;
+    HOLDS(frost_version() == FROST_VERSION);
+    HOLDS(strcmp(frost_refusal_text(FROST_REFUSED_WIDTH_PAST), "the answer's width would pass 63") == 0);
+    HOLDS(strcmp(frost_refusal_text(13), "no refusal has this number") == 0);
+    HOLDS(frost_round_bit_sign_change(rb(0, 0, FROST_LEAST_WIDTH, FROST_LEAST_UNIT)).refusal == FROST_DONE);
+    HOLDS(frost_round_bit_sign_change(rb(0, 0, FROST_MOST_WIDTH, FROST_MOST_UNIT)).refusal == FROST_DONE);
+    HOLDS(frost_round_bit_sign_change(rb(0, 0, FROST_LEAST_WIDTH - 1, 0)).refusal == FROST_REFUSED_WIDTH);
+    HOLDS(frost_round_bit_sign_change(rb(0, 0, FROST_MOST_WIDTH + 1, 0)).refusal == FROST_REFUSED_WIDTH);
+    HOLDS(frost_round_bit_sign_change(rb(0, 0, 2, FROST_LEAST_UNIT - 1)).refusal == FROST_REFUSED_UNIT);
+    HOLDS(frost_round_bit_sign_change(rb(0, 0, 2, FROST_MOST_UNIT + 1)).refusal == FROST_REFUSED_UNIT);
+    HOLDS(written(frost_digit_text_write(rb(0, 0, FROST_MOST_WIDTH, 0), text, FROST_LONGEST_DIGIT_TEXT),
+                  FROST_LONGEST_DIGIT_TEXT, FROST_DONE));
+    HOLDS(frost_file_write(FROST_KIND_HALF_UNIT, FROST_MOST_FILE_WIDTH + 1, 0, numbers, 1, rounds, 1, file, 99).refusal ==
+          FROST_REFUSED_WIDTH);
+    HOLDS(frost_file_write(FROST_KIND_HALF_UNIT + 1, 5, 0, numbers, 1, rounds, 1, file, 99).refusal == FROST_REFUSED_FORM);
+    HOLDS(frost_file_write(FROST_KIND_PLAIN, 5, 0, numbers, most + 1, rounds, most + 1, file, sizeof file).refusal ==
+          FROST_REFUSED_FORM);
+    HOLDS(written(frost_file_write(FROST_KIND_ROUND_BIT, FROST_MOST_FILE_WIDTH, -100, numbers, most, rounds, most, file,
+                                   FROST_LONGEST_FILE),
+                  FROST_LONGEST_FILE, FROST_DONE));
+    HOLDS(frost_listing_text(file, FROST_LONGEST_FILE, text, sizeof text).refusal == FROST_DONE);
+}
+
 int main(void)
 {
     round_bit_words();
     half_unit_words();
     running_sums();
     texts_and_files();
+    limits();
     return failed;
 }

@@ -19,7 +19,48 @@
 extern "C" {
 #endif
 
-/* The three kinds of word. Two kinds are two types, also where their fields are alike. */
+/* The version that this header declares, as 10000 * major + 100 * minor + patch. frost_version() tells the archive's. */
+#define FROST_VERSION 10000
+
+/* What `refusal` says. frost_refusal_text() has each in words. */
+enum frost_refusal {
+    FROST_DONE = 0,
+    FROST_REFUSED_WIDTH = 1,
+    FROST_REFUSED_UNIT = 2,
+    FROST_REFUSED_NUMBER = 3,
+    FROST_REFUSED_MISMATCH = 4,
+    FROST_REFUSED_DEPTH = 5,
+    FROST_REFUSED_WIDTH_PAST = 6,
+    FROST_REFUSED_UNIT_PAST = 7,
+    FROST_REFUSED_NUMBER_PAST = 8,
+    FROST_REFUSED_DIGIT_TEXT = 9,
+    FROST_REFUSED_BUFFER = 10,
+    FROST_REFUSED_MARK = 11,
+    FROST_REFUSED_FORM = 12
+};
+
+/* The kind of a block file's words. */
+enum frost_kind { FROST_KIND_PLAIN = 0, FROST_KIND_ROUND_BIT = 1, FROST_KIND_HALF_UNIT = 2 };
+
+/* Limits: widths and units of every word, widths and records of a file, and what a buffer must hold for the longest
+ * digit text, file and listing. */
+enum frost_limit {
+    FROST_LEAST_WIDTH = 2,
+    FROST_MOST_WIDTH = 63,
+    FROST_LEAST_UNIT = -127,
+    FROST_MOST_UNIT = 127,
+    FROST_MOST_FILE_WIDTH = 32,
+    FROST_MOST_RECORDS = 8000,
+    FROST_LONGEST_DIGIT_TEXT = FROST_MOST_WIDTH,
+    FROST_LONGEST_FILE = 12 + 5 * FROST_MOST_RECORDS,
+    FROST_LONGEST_LISTING = 248019
+};
+
+/* The three kinds of word. Two kinds are two types, also where their fields are alike. A word of unit e is worth
+ *   plain      number * 2^e
+ *   round-bit  (number + round) * 2^e, round 0 or 1
+ *   half-unit  (number + 1/2) * 2^e
+ * and its number lies from -2^(width-1) to 2^(width-1) - 1. */
 typedef struct { int64_t number; uint32_t width; int32_t unit; } frost_plain;
 typedef struct { int64_t number; uint32_t width; int32_t unit; } frost_half_unit;
 typedef struct { int64_t number; uint32_t width; int32_t unit; uint8_t round; } frost_round_bit;
@@ -34,6 +75,36 @@ typedef struct { frost_running_sum sum; frost_round_bit word; uint32_t refusal; 
 
 typedef struct { uint32_t refusal, kind, width; int32_t unit; uint32_t count; } frost_file_head;
 typedef struct { uint64_t bytes; uint32_t refusal; } frost_written;
+
+/* The archive's own version: FROST_VERSION of the header that belongs to it. */
+uint32_t frost_version(void);
+
+/* A refusal in words, as the table has it; the answer is never null. */
+static inline const char *frost_refusal_text(uint32_t refusal)
+{
+    switch (refusal) {
+    case FROST_DONE: return "done";
+    case FROST_REFUSED_WIDTH: return "a width is outside 2 to 63 (2 to 32 in a file)";
+    case FROST_REFUSED_UNIT: return "a unit exponent is outside -127 to 127";
+    case FROST_REFUSED_NUMBER:
+        return "a number is outside its width, or a round bit is not 0 or 1, or a round byte in a block of kind 0 or 2 is "
+               "not 0";
+    case FROST_REFUSED_MISMATCH: return "a sum's operands, or a word and its running sum, differ in width or unit";
+    case FROST_REFUSED_DEPTH:
+        return "a cut, or a conversion with a depth, would leave fewer than 2 digits; or a running sum has, or is opened "
+               "with, a depth of 0 or more than its width less 2";
+    case FROST_REFUSED_WIDTH_PAST: return "the answer's width would pass 63";
+    case FROST_REFUSED_UNIT_PAST: return "the answer's unit exponent would leave -127 to 127";
+    case FROST_REFUSED_NUMBER_PAST: return "the answer's number does not fit its width";
+    case FROST_REFUSED_DIGIT_TEXT:
+        return "a digit text has a byte that is not `+`, `0` or `-`, or two nonzero digits of one sign with nothing or "
+               "only zeros between them";
+    case FROST_REFUSED_BUFFER: return "a lent buffer is too short for what would be written";
+    case FROST_REFUSED_MARK: return "a file's mark or version is wrong";
+    case FROST_REFUSED_FORM: return "a file's length, kind or count is wrong";
+    default: return "no refusal has this number";
+    }
+}
 
 /* Round-bit words. All refuse 1, 2, 3 of each operand first; then as said. */
 frost_round_bit_answer frost_round_bit_sign_change(frost_round_bit w);
@@ -79,7 +150,7 @@ frost_written frost_file_write(uint32_t kind, uint32_t width, int32_t unit, cons
                                size_t room);
 
 /* The listing of a file as text. A refused file is text, `refused N`; the call itself refuses 10 alone. No listing is
- * longer than 248,019 bytes; in less room than that the text is counted before it is written, which takes longer. */
+ * longer than FROST_LONGEST_LISTING bytes; in less room than that the text is counted before it is written, which takes longer. */
 frost_written frost_listing_text(const uint8_t *file, size_t length, uint8_t *text, size_t room);
 
 #ifdef __cplusplus

@@ -4,13 +4,12 @@
 -- values are in half units of the sum's unit. Assumes nothing.
 use Prim.Native.Nat.{ℕ, zero, suc, _-_, _^_, _≤_}
 use native.Mathlib.Omega.{arith}
-use mathlib.Core.Path.{_≡_, refl, ap, _∙_, subst}
+use mathlib.Core.Path.{_≡_, refl, sym, ap, _∙_, subst}
 use mathlib.Core.List.{List, [], _∷_, _++_, map, map-append}
 use lib.IntN.{ℤ, pos, natAbs, _+ℤ_, _-ℤ_}
-use lib.ListN.{getD}
-use Rattle.words.specs.Refusals.{numberOf, causeNumber, causes}
+use Rattle.words.specs.Refusals.{numberOf, causeNumber, row}
 use Rattle.words.specs.declared.{Cause.the-variants.Width, Format.Format, Outcome.{Outcome, the-variants.{Done, Refused}}, RoundBitWord.RoundBitWord}
-use Rattle.words.proofs.Laws.{table-range, cause-of-number, refused-not-done}
+use Rattle.words.proofs.Laws.{cause-of-number, cause-some, found, refused-not-done}
 use Rattle.running_sum.specs.declared.{RunningSum.RunningSum, OpenAnswer.OpenAnswer}
 use Rattle.running_sum.specs.Steps.{Call, blank, openOf, stepOf}
 use Rattle.running_sum.specs.Totals.{Answered, takenIn, givenOut, accepted, handedOut}
@@ -37,15 +36,15 @@ sum-forth o w s = refl
 -- ---- the outcome that a refusal's number stands for
 abbrev outcomeIn : ℕ → Outcome
 outcomeIn zero = Done
-outcomeIn (suc n) = Refused (getD causes n Width)
+outcomeIn (suc n) = Refused (found Width (row (suc n)))
 
 outcome-back : (o : Outcome) → outcomeIn (numberOf o) ≡ o
 outcome-back Done = refl
 outcome-back (Refused c) =
-    let t = cause-of-number c in
-    let r = table-range (causeNumber c) (t .0) in
-    let above : causeNumber c ≡ suc (causeNumber c - 1) = omega arith in
-    ap outcomeIn above ∙ ap Refused (t .1)
+    let above : causeNumber c ≡ suc (causeNumber c - 1) = omega (arith, cause-some c) in
+    ap outcomeIn above
+    ∙ ap (λ (n : ℕ). Refused (found Width (row n))) (sym above)
+    ∙ ap (λ (o : Outcome). Refused (found Width o)) (cause-of-number c)
 
 done-zero : (n : ℕ) → outcomeIn n ≡ Done → n ≡ 0
 done-zero zero e = refl

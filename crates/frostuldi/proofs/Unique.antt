@@ -3,6 +3,7 @@ use mathlib.Core.Path.{sym, _∙_}
 use contract.Lifetimes.{Lfts}
 use denote.Ref.{now}
 use Rattle.integers.specs.OneOutcome.{OneResult, OneBuffer}
+use Rattle.frostuldi.proofs.frost_version.Reads as frost-version
 use Rattle.frostuldi.proofs.frost_round_bit_sign_change.Reads as frost-round-bit-sign-change
 use Rattle.frostuldi.proofs.frost_round_bit_cut.Reads as frost-round-bit-cut
 use Rattle.frostuldi.proofs.frost_round_bit_even_cut.Reads as frost-round-bit-even-cut
@@ -32,6 +33,9 @@ use Rattle.frostuldi.proofs.frost_digit_text_read.Reads as frost-digit-
 use Rattle.frostuldi.proofs.frost_file_read.Reads as frost-file-read
 use Rattle.frostuldi.proofs.frost_file_write.Reads as frost-file-write
 use Rattle.frostuldi.proofs.frost_listing_text.Reads as frost-listing-text
+
+frost-version-one : OneResult (frost-version.Post tt)
+frost-version-one a x y e f p q = p ∙ sym q
 
 frost-round-bit-sign-change-one : OneResult (frost-round-bit-sign-change.Post tt)
 frost-round-bit-sign-change-one a x y e f p q = p ∙ sym q

@@ -1,8 +1,13 @@
 -- The C boundary: how a flat word is read, and how an answer is laid flat. An outcome is its number in document 01's table, 0 for done.
+use Rattle.integers.specs.Names.{ℕ}
 use Rattle.words.specs.{declared.{Outcome.Outcome, PlainWord.PlainWord, RoundBitWord.RoundBitWord, HalfUnitWord.HalfUnitWord, WriteAnswer.WriteAnswer}, Refusals.numberOf, Formats.format, Plain.plainWord, RoundBit.roundBitWord, HalfUnit.halfUnitWord}
 use Rattle.running_sum.specs.declared.RunningSum.{RunningSum}
 use Rattle.block_file.specs.declared.ReadAnswer.{ReadAnswer}
 use Rattle.frostuldi.specs.declared.{FrostPlain.FrostPlain, FrostHalfUnit.FrostHalfUnit, FrostRoundBit.FrostRoundBit, FrostPlainAnswer.FrostPlainAnswer, FrostHalfUnitAnswer.FrostHalfUnitAnswer, FrostRoundBitAnswer.FrostRoundBitAnswer, FrostRunningSum.FrostRunningSum, FrostSumAnswer.FrostSumAnswer, FrostFileHead.FrostFileHead, FrostWritten.FrostWritten}
+
+-- which library this is: 10000 * major + 100 * minor + patch
+abbrev pub version : ℕ
+version = 10000
 
 abbrev pub plainIn : FrostPlain → PlainWord  -- what comes in
 plainIn w = plainWord (w .number) (format (w .width) (w .unit))

@@ -21,7 +21,7 @@ ghost use Rattle.block_file.specs.Layout.{block};
 ghost use Rattle.block_file.specs.Reading.{readOf as fileReadOf, numbersAfter, roundsAfter};
 ghost use Rattle.block_file.specs.Writing.{writeOf as fileWriteOf, fileAfter};
 ghost use Rattle.listing_text.specs.Listing.{listOf, textAfter};
-ghost use Rattle.frostuldi.specs.Boundary.{plainIn, halfUnitIn, roundBitIn, sumIn, flatPlain, flatHalfUnit, flatRoundBit, plainOut, halfUnitOut, roundBitOut, sumOut, headOut, writtenOut};
+ghost use Rattle.frostuldi.specs.Boundary.{version, plainIn, halfUnitIn, roundBitIn, sumIn, flatPlain, flatHalfUnit, flatRoundBit, plainOut, halfUnitOut, roundBitOut, sumOut, headOut, writtenOut};
 use block_file::ReadAnswer;
 use running_sum::RunningSum;
 use words::Format;
@@ -479,6 +479,14 @@ pub extern "C" fn frost_running_sum_empty(s: FrostRunningSum) -> FrostSumAnswer
     let a = sum.empty();
     let o = a.outcome;
     sum_out(o, a.word, a.sum)
+}
+
+// Which library this is: 10000 * major + 100 * minor + patch.
+#[no_mangle]
+pub extern "C" fn frost_version() -> u32
+    ensures { λ r. ⌜ r ≡ version ⌝ }
+{
+    10000
 }
 
 // Digit texts, block files and listings.

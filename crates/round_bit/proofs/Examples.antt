@@ -2,7 +2,8 @@
 use mathlib.Core.Path.{_≡_, refl}
 use lib.IntN.{pos, negsuc}
 use Rattle.integers.specs.Numbers.{fitsWidth}
-use Rattle.words.specs.Refusals.{cause, formatCheck, wordCheck}
+use Rattle.words.specs.Refusals.{formatCheck, wordCheck}
+use Rattle.words.specs.declared.Cause.the-variants.{NumberPast}
 use Rattle.words.specs.Formats.{answerCheck}
 use Rattle.words.specs.Plain.{plainRefused, plainFitted}
 use Rattle.words.specs.RoundBit.{roundBitCheck, roundBitDone}
@@ -12,7 +13,7 @@ use Rattle.round_bit.specs.Arithmetic.{sumWord, magnitudeProduct, multip
 
 -- "Widths 32 and 32: round-bit product done at 63"; "(15,1) to plain: 8."
 widths : (productOf (at 32 (pos 0) 0) (at 32 (pos 0) 0) ≡ roundBitDone (at 63 (pos 0) 0))
-    × (toPlainOf (at 5 (pos 15) 1) ≡ plainRefused (cause 8 tt))
+    × (toPlainOf (at 5 (pos 15) 1) ≡ plainRefused NumberPast)
 unfolding fitsWidth formatCheck wordCheck answerCheck plainFitted roundBitCheck magnitudeProduct multiplied productWord toPlainWord
 widths = (refl, refl)
 

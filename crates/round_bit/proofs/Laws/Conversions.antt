@@ -10,11 +10,11 @@ use borrow.Author.Tests.{ltb-false, le-ltb}
 use Rattle.integers.specs.Numbers.{fitsWidth}
 use Rattle.integers.proofs.Width.{fits-is, carry-past}
 use Rattle.words.specs.Words.{value}
-use Rattle.words.specs.Refusals.{cause}
+use Rattle.words.specs.Refusals.{refuse}
 use Rattle.words.specs.Formats.{format}
 use Rattle.words.specs.Plain.{plainValue, plainCheck, plainRefused, plainDone, plainFitted}
 use Rattle.words.specs.RoundBit.{roundBitValue, roundBitCheck}
-use Rattle.words.specs.declared.Outcome.the-variants.{Done, Refused}
+use Rattle.words.specs.declared.Outcome.the-variants.{Done}
 use Rattle.words.specs.declared.PlainWord.{PlainWord}
 use Rattle.words.specs.declared.RoundBitWord.{RoundBitWord}
 use Rattle.words.proofs.Laws.{right, word-right}
@@ -50,7 +50,7 @@ from-to-plain w e =
     let g = right (w .format) (w .number .0) 0 e in
     rw (e, +ℤ-idr (w .number .0), fit-passes (w .format) (w .number .0) (g .size))
 
-pub to-plain-refuses : (w : RoundBitWord) → roundBitCheck w ≡ Done → (toPlainOf w .outcome ≡ Done) ⊎ ((toPlainOf w .outcome ≡ Refused (cause 8 tt)) × (w .number .0 +ℤ pos (w .number .1) ≡ pos (2 ^ (w .format .width - 1))))
+pub to-plain-refuses : (w : RoundBitWord) → roundBitCheck w ≡ Done → (toPlainOf w .outcome ≡ Done) ⊎ ((toPlainOf w .outcome ≡ refuse 8 true) × (w .number .0 +ℤ pos (w .number .1) ≡ pos (2 ^ (w .format .width - 1))))
 unfolding toPlainWord plainFitted roundBitCheck
 to-plain-refuses w e = told (fitsWidth a (w .format .width)) refl
   where
@@ -60,12 +60,12 @@ to-plain-refuses w e = told (fitsWidth a (w .format .width)) refl
     p : ℕ
     p = 2 ^ (w .format .width - 1)
 
-    told : (b : Bool) → fitsWidth a (w .format .width) ≡ b → (toPlainOf w .outcome ≡ Done) ⊎ ((toPlainOf w .outcome ≡ Refused (cause 8 tt)) × (a ≡ pos p))
+    told : (b : Bool) → fitsWidth a (w .format .width) ≡ b → (toPlainOf w .outcome ≡ Done) ⊎ ((toPlainOf w .outcome ≡ refuse 8 true) × (a ≡ pos p))
     told true f = inl (rw (e, f))
     told false f =
         let g = right (w .format) (w .number .0) (w .number .1) e in
         inr (rw (e, f), carry-past (w .number .0) (w .number .1) p (g .size) (g .bit) (ltb-false (mag a) p (sym (fits-is a (w .format .width)) ∙ f)))
 
-pub to-plain-past : (w : RoundBitWord) → roundBitCheck w ≡ Done → w .number .0 +ℤ pos (w .number .1) ≡ pos (2 ^ (w .format .width - 1)) → toPlainOf w .outcome ≡ Refused (cause 8 tt)
+pub to-plain-past : (w : RoundBitWord) → roundBitCheck w ≡ Done → w .number .0 +ℤ pos (w .number .1) ≡ pos (2 ^ (w .format .width - 1)) → toPlainOf w .outcome ≡ refuse 8 true
 unfolding toPlainWord plainFitted
 to-plain-past w e h = let n = w .format .width in rw (e, h, fits-is (pos (2 ^ (n - 1))) n, le-ltb (2 ^ (n - 1)) (2 ^ (n - 1)) (omega arith))

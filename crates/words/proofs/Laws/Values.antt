@@ -1,0 +1,28 @@
+-- The values as `omega` is handed them: `plain-law`, `round-bit-law`, `half-unit-law`; and `three-amounts-differ`. Assumes nothing.
+use Prim.Native.Nat.{ℕ, _+_, _*_}
+use native.Mathlib.Omega.{arith}
+use mathlib.Core.Path.{_≡_, ap}
+use lib.IntN.{ℤ, pos, _+ℤ_, _*ℤ_}
+use Rattle.integers.proofs.Kit.{up, down, plus-law, times-law}
+use Rattle.words.specs.Words.{value}
+use Rattle.words.specs.Words.Kind.{plain, roundBit, halfUnit}
+
+pub plain-law : (x : ℤ) → up (value plain x 0) + 2 * down x ≡ 2 * up x + down (value plain x 0)
+unfolding value
+plain-law x = omega (arith, times-law (pos 2) x)
+
+pub round-bit-law : (a : ℤ) (r : ℕ) → up (value roundBit a r) + 2 * down a ≡ 2 * up a + 2 * r + down (value roundBit a r)
+unfolding value
+round-bit-law a r = omega (arith, times-law (pos 2) (a +ℤ pos r), plus-law a (pos r))
+
+pub half-unit-law : (w : ℤ) → up (value halfUnit w 0) + 2 * down w ≡ 2 * up w + 1 + down (value halfUnit w 0)
+unfolding value
+half-unit-law w = omega (arith, times-law (pos 2) w, plus-law (pos 2 *ℤ w) (pos 1))
+
+-- "The same digits mean three amounts": whatever the digits, as a plain word, as (x,1) and as a half-unit word
+pub three-amounts-differ : (x : ℤ) → (value plain x 0 ≡ value roundBit x 1 → ⊥) × (value plain x 0 ≡ value halfUnit x 0 → ⊥) × (value roundBit x 1 ≡ value halfUnit x 0 → ⊥)
+three-amounts-differ x = (
+  (λ e. omega (arith, plain-law x, round-bit-law x 1, ap up e, ap down e)),
+  (λ e. omega (arith, plain-law x, half-unit-law x, ap up e, ap down e)),
+  (λ e. omega (arith, round-bit-law x 1, half-unit-law x, ap up e, ap down e)),
+)
