@@ -1,15 +1,35 @@
--- The C boundary: how a flat word is read, and how an answer is laid flat. An outcome is its number in document 01's table, 0 for done.
+-- The C boundary: how a flat word is read, and how an answer is laid flat. An outcome is its number
+-- in document 01's table, 0 for done.
 use Rattle.integers.specs.Names.{ℕ}
-use Rattle.words.specs.{declared.{Outcome.Outcome, PlainWord.PlainWord, RoundBitWord.RoundBitWord, HalfUnitWord.HalfUnitWord, WriteAnswer.WriteAnswer}, Refusals.numberOf, Formats.format, Plain.plainWord, RoundBit.roundBitWord, HalfUnit.halfUnitWord}
+use Rattle.words.specs.declared.Outcome.{Outcome}
+use Rattle.words.specs.declared.PlainWord.{PlainWord}
+use Rattle.words.specs.declared.RoundBitWord.{RoundBitWord}
+use Rattle.words.specs.declared.HalfUnitWord.{HalfUnitWord}
+use Rattle.words.specs.declared.WriteAnswer.{WriteAnswer}
+use Rattle.words.specs.Refusals.{numberOf}
+use Rattle.words.specs.Formats.{format}
+use Rattle.words.specs.Plain.{plainWord}
+use Rattle.words.specs.RoundBit.{roundBitWord}
+use Rattle.words.specs.HalfUnit.{halfUnitWord}
 use Rattle.running_sum.specs.declared.RunningSum.{RunningSum}
 use Rattle.block_file.specs.declared.ReadAnswer.{ReadAnswer}
-use Rattle.frostuldi.specs.declared.{FrostPlain.FrostPlain, FrostHalfUnit.FrostHalfUnit, FrostRoundBit.FrostRoundBit, FrostPlainAnswer.FrostPlainAnswer, FrostHalfUnitAnswer.FrostHalfUnitAnswer, FrostRoundBitAnswer.FrostRoundBitAnswer, FrostRunningSum.FrostRunningSum, FrostSumAnswer.FrostSumAnswer, FrostFileHead.FrostFileHead, FrostWritten.FrostWritten}
+use Rattle.frostuldi.specs.declared.FrostPlain.{FrostPlain}
+use Rattle.frostuldi.specs.declared.FrostHalfUnit.{FrostHalfUnit}
+use Rattle.frostuldi.specs.declared.FrostRoundBit.{FrostRoundBit}
+use Rattle.frostuldi.specs.declared.FrostPlainAnswer.{FrostPlainAnswer}
+use Rattle.frostuldi.specs.declared.FrostHalfUnitAnswer.{FrostHalfUnitAnswer}
+use Rattle.frostuldi.specs.declared.FrostRoundBitAnswer.{FrostRoundBitAnswer}
+use Rattle.frostuldi.specs.declared.FrostRunningSum.{FrostRunningSum}
+use Rattle.frostuldi.specs.declared.FrostSumAnswer.{FrostSumAnswer}
+use Rattle.frostuldi.specs.declared.FrostFileHead.{FrostFileHead}
+use Rattle.frostuldi.specs.declared.FrostWritten.{FrostWritten}
 
 -- which library this is: 10000 * major + 100 * minor + patch
 abbrev pub version : ℕ
 version = 10000
 
-abbrev pub plainIn : FrostPlain → PlainWord  -- what comes in
+-- what comes in
+abbrev pub plainIn : FrostPlain → PlainWord
 plainIn w = plainWord (w .number) (format (w .width) (w .unit))
 
 abbrev pub halfUnitIn : FrostHalfUnit → HalfUnitWord
@@ -21,14 +41,20 @@ roundBitIn w = roundBitWord (w .number) (w .round) (format (w .width) (w .unit))
 abbrev pub sumIn : FrostRunningSum → RunningSum
 sumIn s = record { kept = roundBitIn (s .kept); depth = s .depth }
 
-abbrev pub flatPlain : PlainWord → FrostPlain  -- what goes out
+-- what goes out
+abbrev pub flatPlain : PlainWord → FrostPlain
 flatPlain w = record { number = w .number .0; width = w .format .width; unit = w .format .unit }
 
 abbrev pub flatHalfUnit : HalfUnitWord → FrostHalfUnit
 flatHalfUnit w = record { number = w .number .0; width = w .format .width; unit = w .format .unit }
 
 abbrev pub flatRoundBit : RoundBitWord → FrostRoundBit
-flatRoundBit w = record { number = w .number .0; width = w .format .width; unit = w .format .unit; round = w .number .1 }
+flatRoundBit w = record {
+  number = w .number .0;
+  width = w .format .width;
+  unit = w .format .unit;
+  round = w .number .1;
+}
 
 abbrev pub plainOut : Outcome → PlainWord → FrostPlainAnswer
 plainOut o w = record { word = flatPlain w; refusal = numberOf o }
@@ -40,10 +66,20 @@ abbrev pub roundBitOut : Outcome → RoundBitWord → FrostRoundBitAnswer
 roundBitOut o w = record { word = flatRoundBit w; refusal = numberOf o }
 
 abbrev pub sumOut : Outcome → RoundBitWord → RunningSum → FrostSumAnswer
-sumOut o w s = record { sum = record { kept = flatRoundBit (s .kept); depth = s .depth }; word = flatRoundBit w; refusal = numberOf o }
+sumOut o w s = record {
+  sum = record { kept = flatRoundBit (s .kept); depth = s .depth };
+  word = flatRoundBit w;
+  refusal = numberOf o;
+}
 
 abbrev pub headOut : ReadAnswer → FrostFileHead
-headOut a = record { refusal = numberOf (a .outcome); kind = a .head .kind; width = a .head .format .width; unit = a .head .format .unit; count = a .head .count }
+headOut a = record {
+  refusal = numberOf (a .outcome);
+  kind = a .head .kind;
+  width = a .head .format .width;
+  unit = a .head .format .unit;
+  count = a .head .count;
+}
 
 abbrev pub writtenOut : WriteAnswer → FrostWritten
 writtenOut a = record { bytes = a .count; refusal = numberOf (a .outcome) }

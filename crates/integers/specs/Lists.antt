@@ -1,4 +1,5 @@
--- Lists by their index, over any element: what a loop that fills a lent buffer leaves in it, and what a loop that looks for a fault finds.
+-- Lists by their index, over any element: what a loop that fills a lent buffer leaves in it, and
+-- what a loop that looks for a fault finds.
 use Prim.Native.Nat.{ℕ, zero, suc}
 use mathlib.Core.Bool.{Bool, cond}
 use mathlib.Core.List.{List, [], _∷_, _++_}

@@ -1,4 +1,5 @@
--- The names that the definitions of the crates above are written in: the library's numbers, lists and tests, and those of this crate.
+-- The names that the definitions of the crates above are written in: the library's numbers, lists
+-- and tests, and those of this crate.
 pub use Prim.Native.Nat.{ℕ, zero, suc, _+_, _-_, _*_, _^_, _≤_}
 pub use mathlib.Core.Path.{_≡_}
 pub use mathlib.Core.Bool.{Bool, true, false, not, cond, _&&_, _||_}
@@ -8,6 +9,7 @@ pub use lib.Bits.{bitAnd, bitOr}
 pub use lib.IntN.{ℤ, pos, negsuc, negℤ, natAbs, _+ℤ_, _-ℤ_, _*ℤ_}
 pub use lib.Signed.{ltZ}
 pub use lib.ListN.{length, getD}
-pub use Rattle.integers.specs.Numbers.{lies, eqZ, exactlyOne, fitsWidth, turned, floorBy, cleared, digit, anyBelow, lowDigits}
+pub use Rattle.integers.specs.Numbers.{lies, eqZ, exactlyOne, fitsWidth, turned, floorBy}
+pub use Rattle.integers.specs.Numbers.{cleared, digit, anyBelow, lowDigits}
 pub use Rattle.integers.specs.Lists.{tab, atFront, flat, firstBad}
 pub use Rattle.integers.specs.Bytes.{ofBytes, signedOfBytes, bytesOf, part, sameBytes}

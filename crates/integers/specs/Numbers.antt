@@ -1,4 +1,5 @@
--- Whole numbers as document 01 speaks of them: a range, the floor of a division by 2 ^ d, the digits in two's complement.
+-- Whole numbers as document 01 speaks of them: a range, the floor of a division by 2 ^ d, the
+-- digits in two's complement.
 use Prim.Native.Nat.{ℕ, zero, suc, _+_, _-_, _*_, _%_, _^_}
 use mathlib.Core.Bool.{Bool, true, false, not, _&&_}
 use lib.Bits.{bitOr}
@@ -53,7 +54,8 @@ unfoldable pub anyBelow : ℤ → ℕ → ℕ
 anyBelow x zero = 0
 anyBelow x (suc k) = bitOr (digit x k) (anyBelow x k)
 
--- "the low d digits read as two's complement": the highest of them counts against the others; no digits at all read 0
+-- "the low d digits read as two's complement": the highest of them counts against the others; no
+-- digits at all read 0
 unfoldable pub lowDigits : ℤ → ℕ → ℤ
 lowDigits x zero = pos 0
 lowDigits x (suc k) = pos (digitsBelow x k) -ℤ pos (digit x k * 2 ^ k)

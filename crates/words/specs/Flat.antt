@@ -1,5 +1,5 @@
--- An answer laid flat, of whichever kind: the number of its outcome and every field of its word. What a table of wrong answers compares,
--- and what its rows are made of.
+-- An answer laid flat, of whichever kind: the number of its outcome and every field of its word.
+-- What a table of wrong answers compares, and what its rows are made of.
 use Prim.Native.Nat.{ℕ}
 use mathlib.Core.Bool.{Bool, _&&_}
 use lib.Dec.{eqb}
@@ -43,8 +43,8 @@ flatHalfUnit a = laidFlat (a .outcome) (a .word .number .0) 0 (a .word .format)
 
 abbrev pub sameFlat : Flat → Flat → Bool
 sameFlat a b =
-    eqb (a .refusal) (b .refusal) && eqZ (a .number) (b .number) && eqb (a .round) (b .round) && eqb (a .width) (b .width)
-    && eqZ (a .unit) (b .unit)
+    eqb (a .refusal) (b .refusal) && eqZ (a .number) (b .number) && eqb (a .round) (b .round)
+    && eqb (a .width) (b .width) && eqZ (a .unit) (b .unit)
 
 -- words of width n and unit 0; a done answer of unit 0; the blank answer of a refusal
 abbrev pub plainAt : ℕ → ℤ → PlainWord

@@ -9,7 +9,7 @@ use Rattle.words.specs.declared.Outcome.{Outcome}
 use Rattle.words.specs.declared.Outcome.the-variants.{Done, Refused}
 use Rattle.words.specs.declared.Format.{Format}
 use Rattle.words.specs.declared.WriteAnswer.{WriteAnswer}
-use Rattle.words.specs.Words.{badWidth, badUnit, outside, badRoundBit}
+use Rattle.words.specs.Words.{leastWidth, badWidth, badUnit, outside, badRoundBit}
 
 -- the table: each cause once, and below the number of each, which docs/REFUSALS.md has in words
 abbrev pub causes : List Cause
@@ -87,7 +87,7 @@ differ f g = not (eqb (f .width) (g .width) && eqZ (f .unit) (g .unit))
 -- "A refusal returns the blank word (number 0, round bit 0, width 2, unit 0)": its format, and the
 -- choice between that answer and another
 abbrev pub blankFormat : Format
-blankFormat = record { width = 2; unit = pos 0 }
+blankFormat = record { width = leastWidth; unit = pos 0 }
 
 abbrev pub after : {A : Type 0} → (Cause → A) → Outcome → A → A
 after refused Done answer = answer

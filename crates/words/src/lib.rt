@@ -137,17 +137,25 @@ pub fn or_else(a: Outcome, b: Outcome) -> Outcome
     }
 }
 
+pub const LEAST_WIDTH: u32 = 2;
+
+pub const MOST_WIDTH: u32 = 63;
+
+pub const MOST_UNIT: i32 = 127;
+
+pub const LEAST_UNIT: i32 = -MOST_UNIT;
+
 fn bad_width(f: Format) -> bool
     ensures { λ r. ⌜ r ≡ badWidth (f .width) ⌝ }
 {
-    !((2 <= f.width) & (f.width <= 63))
+    !((LEAST_WIDTH <= f.width) & (f.width <= MOST_WIDTH))
 }
 
 // Is the unit exponent outside -127 to 127?
 pub fn bad_unit(f: Format) -> bool
     ensures { λ r. ⌜ r ≡ badUnit (f .unit) ⌝ }
 {
-    !((-127 <= f.unit) & (f.unit <= 127))
+    !((LEAST_UNIT <= f.unit) & (f.unit <= MOST_UNIT))
 }
 
 // Does a number lie outside the format's width?
@@ -176,9 +184,10 @@ pub fn format_check(f: Format) -> Outcome
 {
     let width = bad_width(f);
     let unit = bad_unit(f);
-    match refuse(Cause::Width, width) {
-        Outcome::Refused(c) => Outcome::Refused(c),
-        Outcome::Done => refuse(Cause::Unit, unit),
+    if let Outcome::Refused(c) = refuse(Cause::Width, width) {
+        Outcome::Refused(c)
+    } else {
+        refuse(Cause::Unit, unit)
     }
 }
 
@@ -186,30 +195,41 @@ pub fn format_check(f: Format) -> Outcome
 fn word_check(f: Format, x: i64, r: u8) -> Outcome
     ensures { λ o. ⌜ o ≡ wordCheck f x r ⌝ }
 {
-    match format_check(f) {
-        Outcome::Refused(c) => Outcome::Refused(c),
-        Outcome::Done => refuse(Cause::Number, outside(f, x) | bad_round_bit(r)),
+    if let Outcome::Refused(c) = format_check(f) {
+        Outcome::Refused(c)
+    } else {
+        refuse(Cause::Number, outside(f, x) | bad_round_bit(r))
     }
 }
 
 // The width and the unit of the blank word.
-const BLANK: Format = Format { width: 2, unit: 0 };
+const BLANK_FORMAT: Format = Format {
+    width: LEAST_WIDTH,
+    unit: 0,
+};
 
 fn format_refused(c: Cause) -> FormatAnswer
     ensures { λ r. ⌜ r ≡ formatAnswer (Outcome.Refused c) blankFormat ⌝ }
 {
     FormatAnswer {
         outcome: Outcome::Refused(c),
-        format: BLANK,
+        format: BLANK_FORMAT,
     }
 }
+
+// The ends of the widths and units, in the types of a width and a unit that may lie outside them.
+const MOST_WIDTH_WIDE: u64 = MOST_WIDTH as u64;
+
+const LEAST_UNIT_WIDE: i64 = LEAST_UNIT as i64;
+
+const MOST_UNIT_WIDE: i64 = MOST_UNIT as i64;
 
 // The format of this width and unit, or 7.
 fn placed(width: u64, unit: i64) -> FormatAnswer
     requires { ⌜ width < 2 ^ 32 ⌝ }
     ensures { λ r. ⌜ r ≡ formatAnswer (refuse 7 (badUnit unit)) (format width unit) ⌝ }
 {
-    if (-127 <= unit) & (unit <= 127) {
+    if (LEAST_UNIT_WIDE <= unit) & (unit <= MOST_UNIT_WIDE) {
         FormatAnswer {
             outcome: Outcome::Done,
             format: Format {
@@ -226,7 +246,7 @@ fn placed(width: u64, unit: i64) -> FormatAnswer
 pub fn formed(width: u64, unit: i64) -> FormatAnswer
     ensures { λ r. ⌜ r ≡ formatAnswer (answerCheck (format width unit)) (format width unit) ⌝ }
 {
-    if 63 < width {
+    if MOST_WIDTH_WIDE < width {
         format_refused(Cause::WidthPast)
     } else {
         placed(width, unit)
@@ -244,7 +264,7 @@ pub fn units_multiplied(f: Format, g: Format) -> i64
 pub fn wider(f: Format, d: u64) -> FormatAnswer
     ensures { λ r. ⌜ r ≡ formatAnswer (answerCheck (wider f d)) (wider f d) ⌝ }
 {
-    if 63 < d {
+    if MOST_WIDTH_WIDE < d {
         format_refused(Cause::WidthPast)
     } else {
         formed((f.width as u64) + d, (f.unit as i64) - (d as i64))
@@ -280,7 +300,7 @@ pub fn plain_refused(c: Cause) -> PlainAnswer
         outcome: Outcome::Refused(c),
         word: PlainWord {
             number: Plain(0),
-            format: BLANK,
+            format: BLANK_FORMAT,
         },
     }
 }
@@ -319,7 +339,7 @@ pub fn round_bit_refused(c: Cause) -> RoundBitAnswer
         outcome: Outcome::Refused(c),
         word: RoundBitWord {
             number: RoundBit(0, 0),
-            format: BLANK,
+            format: BLANK_FORMAT,
         },
     }
 }
@@ -358,7 +378,7 @@ pub fn half_unit_refused(c: Cause) -> HalfUnitAnswer
         outcome: Outcome::Refused(c),
         word: HalfUnitWord {
             number: HalfUnit(0),
-            format: BLANK,
+            format: BLANK_FORMAT,
         },
     }
 }
