@@ -1,0 +1,77 @@
+-- The buffer holds any listing, so `list` never refuses here: what is handed on is the listing, whole, and its
+-- first byte tells whether the file was refused.
+use Prim.Native.Nat.{ℕ}
+use native.Mathlib.Omega.{arith}
+use mathlib.Core.Path.{_≡_, refl, sym, _∙_}
+use mathlib.Core.Bool.{Bool, false}
+use mathlib.Core.List.{List, _++_, append-assoc}
+use lib.Dec.{eqb}
+use lib.IntN.{ℤ}
+use lib.ListN.{length, take, getD}
+use lib.Seq.{take-at}
+use borrow.Author.Tests.{le-ltb}
+use Rattle.integers.specs.Lists.{atFront}
+use Rattle.io.proofs.Counting.{counts}
+use Rattle.words.specs.declared.Outcome.{Outcome}
+use Rattle.words.specs.declared.Outcome.the-variants.{Done, Refused}
+use Rattle.words.specs.declared.WriteAnswer.{WriteAnswer}
+use Rattle.words.specs.Refusals.{writeAnswer, lentAfter}
+use Rattle.words.specs.Words.{Kind}
+use Rattle.words.specs.Words.Kind.{plain, roundBit, halfUnit}
+use Rattle.block_file.specs.declared.Head.{Head}
+use Rattle.listing_text.specs.Listing.{listing, listed, listCheck, kindName, headLine, refusedLine, roomCheck, listOf, textAfter}
+use Rattle.listing_text.proofs.Laws.Lengths.{longest-listing}
+use borrow.Author.Needs.{needs}
+use Rattle.listing.proofs.list_into.Statement.{statement}
+use Rattle.listing.proofs.list_into.Tie as tie
+
+-- a kind's name does not begin as a refusal does
+first-of-kind : (k : Kind) (more : List ℕ) → eqb (getD (kindName k ++ more) 0 0) 114 ≡ false
+unfolding kindName
+first-of-kind plain more = refl
+first-of-kind roundBit more = refl
+first-of-kind halfUnit more = refl
+
+abbrev tells : List ℕ → Bool
+tells text = eqb (getD text 0 0) 114
+
+first-of : (o : Outcome) (h : Head) (x : ℕ → ℤ) (r : ℕ → ℕ) (more : List ℕ) →
+    (tells (listed o h x r ++ more) ≡ false → o ≡ Done) × (o ≡ Done → tells (listed o h x r ++ more) ≡ false)
+unfolding listed headLine refusedLine
+first-of Done h x r more = (λ e. refl, λ e. simp append-assoc (first-of-kind _ _))
+first-of (Refused c) h x r more = (λ e. cc, λ e. cc)
+
+module _ (file text : List ℕ) (long : length text ≡ 248019) where
+  roomy : roomCheck file (length text) ≡ Done
+  unfolding roomCheck
+  roomy = rw (le-ltb (length text) (length (listing file)) (omega (arith, longest-listing file)))
+
+  count-is : (a : WriteAnswer) → a ≡ listOf file (length text) → a .count ≡ length (listing file)
+  unfolding listOf writeAnswer
+  count-is a e = rw (e, roomy)
+
+  text-is : textAfter file text ≡ atFront (listing file) text
+  unfolding textAfter lentAfter
+  text-is = rw roomy
+
+  whole : (a : WriteAnswer) → a ≡ listOf file (length text) → take (a .count) (textAfter file text) ≡ listing file
+  whole a e = rw text-is (take-at (listing file) _ (a .count) (sym (count-is a e)))
+
+  told : (tells (textAfter file text) ≡ false → listCheck file ≡ Done) × (listCheck file ≡ Done → tells (textAfter file text) ≡ false)
+  unfolding listing
+  told = rw text-is (first-of (listCheck file) _ _ _ _)
+
+returns : tie.Need-returns
+returns c =
+    let file = c .before .before .before .before .args .file .now in
+    let text = c .before .before .before .before .args .text .now in
+    let long : length text ≡ 248019 = search needs in
+    let listed = c .before .list in
+    let count = count-is file text long _ (listed .ensures .0) in
+    let after = listed .ensures .1 in (
+      counts _ _ (omega (arith, longest-listing file, count, listed .kept .1 .0)),
+      (rw after (whole file text long _ (listed .ensures .0)), rw after (told file text long)),
+    )
+
+pub list-into-spec : {M : Type 1} → statement M
+list-into-spec = tie.close (tie.spec (λ c κs. search needs) (λ c. search needs) returns)
