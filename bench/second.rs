@@ -1,23 +1,16 @@
-//! The second program, second/src/, behind the library's calls: the same structs in, the same structs out.
+//! The second program, second/src/model/, behind the library's calls: the same structs in, the same structs out.
 #![allow(dead_code)]
 
-#[path = "../second/src/block_file.rs"]
-mod block_file;
-#[path = "../second/src/library.rs"]
+#[path = "../second/src/compare/library.rs"]
 mod library;
-#[path = "../second/src/listing.rs"]
-mod listing;
-#[path = "../second/src/round_bit.rs"]
-mod round_bit;
-#[path = "../second/src/running_sum.rs"]
-mod running_sum;
-#[path = "../second/src/words.rs"]
-mod words;
+#[path = "../second/src/model/mod.rs"]
+mod model;
 
 use library::*;
-use running_sum::{RunningSum, SumAnswer};
+use model::running_sum::{RunningSum, SumAnswer};
+use model::words::{Answer, RoundBit, Written};
+use model::{block_file, listing, round_bit, running_sum};
 use std::slice::{from_raw_parts, from_raw_parts_mut};
-use words::{Answer, RoundBit, Written};
 
 fn word_in(w: FrostRoundBit) -> RoundBit {
     RoundBit {

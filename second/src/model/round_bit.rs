@@ -1,7 +1,7 @@
 //! Document 01, section "Round-bit words" (all of it but the digit text).
 //! Written from document 01 alone; it shares nothing with crates/.
 
-use crate::words::*;
+use super::words::*;
 
 pub fn sign_change(word: RoundBit) -> Answer<RoundBit> {
     match word.causes() {

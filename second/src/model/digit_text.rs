@@ -1,7 +1,7 @@
 //! Document 01, section "Round-bit words", its last item: the digit text.
 //! Written from document 01 alone; it shares nothing with crates/.
 
-use crate::words::*;
+use super::words::*;
 
 pub fn write(word: RoundBit, text: &mut [u8]) -> Written {
     let too_short = refuse_if((text.len() as i128) < word.width, BUFFER_TOO_SHORT);

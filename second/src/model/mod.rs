@@ -1,5 +1,6 @@
 //! The second program alone: document 01 once more, plain and slow.
-//! Written from document 01 alone; it shares nothing with crates/.
+//! Written from document 01 alone; it shares nothing with crates/, and knows
+//! nothing of the comparison.
 
 pub mod block_file;
 pub mod digit_text;

@@ -1,12 +1,12 @@
 //! The two operations of the digit text, called in both programs on one case.
 
-use crate::digit_text;
-use crate::fall;
-use crate::lent::Lent;
-use crate::library::*;
-use crate::operations::{Case, Operand, Reply};
-use crate::tally::{Record, TEXT_READ, TEXT_WRITE};
-use crate::words::{RoundBit, Written, DONE};
+use super::fall;
+use super::lent::Lent;
+use super::library::*;
+use super::operations::{Case, Operand, Reply};
+use super::tally::{Record, TEXT_READ, TEXT_WRITE};
+use crate::model::digit_text;
+use crate::model::words::{RoundBit, Written, DONE};
 
 pub fn written(answer: FrostWritten) -> Written {
     Written {

@@ -1,9 +1,9 @@
 //! All words of small widths, all pairs, all depths, and all short texts.
 
-use crate::operations::{compare_all, Fields, Operand, Takes, OPERATIONS};
-use crate::tally::{Record, OPERATION_ROWS};
-use crate::texts;
-use crate::Job;
+use super::job::Job;
+use super::operations::{compare_all, Fields, Operand, Takes, OPERATIONS};
+use super::tally::{Record, OPERATION_ROWS};
+use super::texts;
 
 /// Unit 0, and units so near the ends that small depths pass them.
 const UNITS: [i32; 9] = [-127, -126, -124, -121, 0, 121, 124, 126, 127];

@@ -1,8 +1,8 @@
 //! Document 01, section "Half-unit words".
 //! Written from document 01 alone; it shares nothing with crates/.
 
-use crate::round_bit::with_round_bit_0;
-use crate::words::*;
+use super::round_bit::with_round_bit_0;
+use super::words::*;
 
 pub fn sign_change(word: HalfUnit) -> Answer<HalfUnit> {
     match word.causes() {

@@ -2,7 +2,7 @@
 //! They are put together here byte by byte, without any check, so that a
 //! wrong file can be made as easily as a good one.
 
-use crate::random::Random;
+use super::random::Random;
 
 #[derive(Clone, Debug)]
 pub struct Block {

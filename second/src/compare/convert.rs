@@ -1,10 +1,10 @@
 //! From the operands of a case to the words of both programs, and from the
 //! answers of both programs to replies that can be compared field by field.
 
-use crate::library::*;
-use crate::operations::{Fields, Operand, Reply};
-use crate::running_sum::SumAnswer;
-use crate::words::{Answer, HalfUnit, Plain, RoundBit};
+use super::library::*;
+use super::operations::{Fields, Operand, Reply};
+use crate::model::running_sum::SumAnswer;
+use crate::model::words::{Answer, HalfUnit, Plain, RoundBit};
 
 impl From<Operand> for FrostPlain {
     fn from(o: Operand) -> FrostPlain {

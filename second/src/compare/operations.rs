@@ -1,11 +1,11 @@
 //! One table of the operations on words: each is called in the library and in
 //! the second program, and every field of the two answers is compared.
 
-use crate::fall;
-use crate::library::*;
-use crate::running_sum::{self, RunningSum};
-use crate::tally::Record;
-use crate::{half_unit, round_bit};
+use super::fall;
+use super::library::*;
+use super::tally::Record;
+use crate::model::running_sum::{self, RunningSum};
+use crate::model::{half_unit, round_bit};
 
 /// The fields of an operand of any kind; kinds without a round bit leave it.
 #[derive(Clone, Copy, Debug, PartialEq)]

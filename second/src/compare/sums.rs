@@ -1,10 +1,10 @@
 //! Running sums over long random lists of calls. Each call is compared, and
 //! both totals of demand 3 are worked out from the calls and the answers.
 
-use crate::operations::{compare, Case, Fields, Operand, Reply, EMPTY, HAND_OUT, OPEN, PUT};
-use crate::random::{self, Random};
-use crate::tally::Record;
-use crate::Job;
+use super::job::Job;
+use super::operations::{compare, Case, Fields, Operand, Reply, EMPTY, HAND_OUT, OPEN, PUT};
+use super::random::{self, Random};
+use super::tally::Record;
 
 const JOBS: u64 = 4;
 const LISTS: u64 = 500;

@@ -1,16 +1,16 @@
 //! Listings: the text that the library puts into a lent buffer, and the listing
 //! program, run as a program on a thousand files.
 
-use crate::blocks;
-use crate::fall;
-use crate::files::{any_file, each_byte_damaged, file_text, random_room, RANDOM_FILES};
-use crate::lent::Lent;
-use crate::library::frost_listing_text;
-use crate::listing;
-use crate::random::Random;
-use crate::tally::{Record, LISTING_CALL, LISTING_PRINTED, PROGRAM_PRINTED};
-use crate::texts::written;
-use crate::Job;
+use super::blocks;
+use super::fall;
+use super::files::{any_file, each_byte_damaged, file_text, random_room, RANDOM_FILES};
+use super::job::Job;
+use super::lent::Lent;
+use super::library::frost_listing_text;
+use super::random::Random;
+use super::tally::{Record, LISTING_CALL, LISTING_PRINTED, PROGRAM_PRINTED};
+use super::texts::written;
+use crate::model::listing;
 use std::io::Write;
 use std::process::{ChildStdin, Command, Stdio};
 use std::time::Duration;

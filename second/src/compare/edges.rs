@@ -1,9 +1,9 @@
 //! Words, depths and texts at and just past the edges of what is allowed.
 
-use crate::operations::{compare_all, Operand, Takes, OPERATIONS};
-use crate::tally::{Record, OPERATION_ROWS};
-use crate::texts;
-use crate::Job;
+use super::job::Job;
+use super::operations::{compare_all, Operand, Takes, OPERATIONS};
+use super::tally::{Record, OPERATION_ROWS};
+use super::texts;
 
 const WIDTHS: [u32; 11] = [0, 1, 2, 3, 31, 32, 33, 62, 63, 64, u32::MAX];
 const UNITS: [i32; 11] = [

@@ -1,10 +1,10 @@
 //! Random cases over all widths and all operations, from a seed that is
 //! printed, so that a run can be repeated.
 
-use crate::operations::{compare, Case, Operand, Takes, OPERATIONS};
-use crate::tally::{Record, OPERATION_ROWS};
-use crate::texts;
-use crate::Job;
+use super::job::Job;
+use super::operations::{compare, Case, Operand, Takes, OPERATIONS};
+use super::tally::{Record, OPERATION_ROWS};
+use super::texts;
 
 /// For each operation; with the two of the digit text 26 million in all.
 const CASES: u64 = 1_000_000;

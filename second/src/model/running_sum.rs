@@ -1,8 +1,8 @@
 //! Document 01, section "The running sum".
 //! Written from document 01 alone; it shares nothing with crates/.
 
-use crate::round_bit::{cause_of_difference, cut, rest, sum};
-use crate::words::*;
+use super::round_bit::{cause_of_difference, cut, rest, sum};
+use super::words::*;
 
 #[derive(Clone, Copy, Debug, PartialEq, Eq)]
 pub struct RunningSum {

@@ -1,15 +1,15 @@
 //! Block files: reading and writing in both programs, with every byte of the
 //! buffers.
 
-use crate::block_file::{self, Head};
-use crate::blocks::{self, Block};
-use crate::fall;
-use crate::lent::Lent;
-use crate::library::*;
-use crate::random::Random;
-use crate::tally::{Record, FILE_READ, FILE_WRITE};
-use crate::texts::written;
-use crate::Job;
+use super::blocks::{self, Block};
+use super::fall;
+use super::job::Job;
+use super::lent::Lent;
+use super::library::*;
+use super::random::Random;
+use super::tally::{Record, FILE_READ, FILE_WRITE};
+use super::texts::written;
+use crate::model::block_file::{self, Head};
 
 pub const RANDOM_FILES: u64 = 150_000;
 

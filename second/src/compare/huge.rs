@@ -3,14 +3,14 @@
 //! costs no more than its addresses; where even these cannot be had, the part
 //! says so and counts as neither passed nor failed.
 
-use crate::fall;
-use crate::files::head;
-use crate::library::*;
-use crate::operations::{Operand, Reply};
-use crate::tally::{Record, FILE_READ, FILE_WRITE, LISTING_CALL, TEXT_READ, TEXT_WRITE};
-use crate::texts::written;
-use crate::Job;
-use crate::{block_file, digit_text, listing};
+use super::fall;
+use super::files::head;
+use super::job::Job;
+use super::library::*;
+use super::operations::{Operand, Reply};
+use super::tally::{Record, FILE_READ, FILE_WRITE, LISTING_CALL, TEXT_READ, TEXT_WRITE};
+use super::texts::written;
+use crate::model::{block_file, digit_text, listing};
 use std::alloc::{alloc_zeroed, dealloc, Layout};
 use std::fmt::Debug;
 
@@ -24,7 +24,9 @@ pub fn jobs() -> Vec<Job> {
         let memory = unsafe { alloc_zeroed(layout()) };
         if memory.is_null() {
             // What is not run has shown nothing, so it does not pass.
-            record.check(false, || "lengths past 2^32: no addresses to be had".to_string());
+            record.check(false, || {
+                "lengths past 2^32: no addresses to be had".to_string()
+            });
             return;
         }
         fall::about_to_call("a call with a length past 2^32", None, &[]);

@@ -1,13 +1,13 @@
 //! The bench sheet of document 01, line by line. Here both programs are held
 //! against the document's own answers, not only against each other.
 
-use crate::blocks;
-use crate::files;
-use crate::operations::{compare, row_of, Case, Fields, Operand, Reply, HAND_OUT, OPEN, PUT};
-use crate::random::Random;
-use crate::tally::Record;
-use crate::texts;
-use crate::Job;
+use super::blocks;
+use super::files;
+use super::job::Job;
+use super::operations::{compare, row_of, Case, Fields, Operand, Reply, HAND_OUT, OPEN, PUT};
+use super::random::Random;
+use super::tally::Record;
+use super::texts;
 
 pub fn jobs() -> Vec<Job> {
     vec![
