@@ -1,13 +1,20 @@
 //! The bench sheet of document 01, line by line. Here both programs are held
-//! against the document's own answers, not only against each other.
+//! against the document's own answers, not only against each other; so its
+//! numbers stand here as they stand there, and not under the model's names.
 
 use super::blocks;
-use super::files;
+use super::call::compare;
+use super::case::{Case, Operand, Reply};
+use super::files_read;
 use super::job::Job;
-use super::operations::{compare, row_of, Case, Fields, Operand, Reply, HAND_OUT, OPEN, PUT};
+use super::limits::MOST_FILE_WIDTH;
+use super::operations::{row_of, HAND_OUT, OPEN, PUT};
 use super::random::Random;
 use super::tally::Record;
 use super::texts;
+use crate::model::kinds::ROUND_BIT;
+use crate::model::running_sum::RunningSum;
+use crate::model::words::{Fields, RoundBit, Word};
 
 pub fn jobs() -> Vec<Job> {
     vec![
@@ -59,27 +66,12 @@ fn expect(line: &str, reply: Reply, refusal: u32, word: Fields, record: &mut Rec
 
 /// A line with one operand and a depth (0 where the operation takes none).
 fn one(line: &str, name: &str, first: Operand, depth: u64, expected: Fields, record: &mut Record) {
-    let reply = compare(
-        row_of(name),
-        &Case {
-            depth,
-            ..Case::of(first)
-        },
-        record,
-    );
+    let reply = compare(row_of(name), &Case::deep(first, depth), record);
     expect(line, reply, 0, expected, record);
 }
 
 fn two(line: &str, name: &str, a: Operand, b: Operand, expected: Fields, record: &mut Record) {
-    let reply = compare(
-        row_of(name),
-        &Case {
-            first: a,
-            depth: 0,
-            second: b,
-        },
-        record,
-    );
+    let reply = compare(row_of(name), &Case::pair(a, b), record);
     expect(line, reply, 0, expected, record);
 }
 
@@ -97,11 +89,10 @@ fn words(r: &mut Record) {
 
 #[rustfmt::skip] // one line of the sheet, one line here
 fn sums(r: &mut Record) {
-    let pair = |first: Operand, second: Operand| Case { first, depth: 0, second };
     two("P1", "frost_round_bit_sum", five(3, 1), five(4, 1), fields(8, 1, 5, 0), r);
     two("P2", "frost_round_bit_sum", five(15, 0), five(0, 1), fields(15, 1, 5, 0), r);
-    refused("P3", "frost_round_bit_sum", pair(five(15, 0), five(1, 0)), 8, r);
-    refused("P4", "frost_round_bit_sum", pair(five(-16, 0), five(-1, 1)), 8, r);
+    refused("P3", "frost_round_bit_sum", Case::pair(five(15, 0), five(1, 0)), 8, r);
+    refused("P4", "frost_round_bit_sum", Case::pair(five(-16, 0), five(-1, 1)), 8, r);
     two("P5", "frost_round_bit_difference", five(5, 0), five(5, 0), fields(-1, 1, 5, 0), r);
     refused("to plain", "frost_round_bit_to_plain", Case::of(five(15, 1)), 8, r);
     two("mistakes, 2", "frost_round_bit_sum", five(0, 0), five(0, 1), fields(0, 1, 5, 0), r);
@@ -114,7 +105,7 @@ fn cuts(r: &mut Record) {
     one("P6", "frost_round_bit_cut", word(11, -718, 0), 2, fields(-180, 1, 9, 2), r);
     one("P6", "frost_round_bit_rest", word(11, -718, 0), 2, fields(-2, 0, 11, 0), r);
     one("P7", "frost_round_bit_cut", word(3, 3, 0), 1, fields(1, 1, 2, 1), r);
-    refused("P7", "frost_round_bit_cut", Case { depth: 2, ..Case::of(word(3, 3, 0)) }, 5, r);
+    refused("P7", "frost_round_bit_cut", Case::deep(word(3, 3, 0), 2), 5, r);
     one("P8", "frost_round_bit_widen", word(4, 5, 1), 2, fields(23, 1, 6, -2), r);
     one("P13", "frost_round_bit_even_cut", five(6, 0), 2, fields(1, 1, 3, 2), r);
     one("P13", "frost_round_bit_even_cut", five(2, 0), 2, fields(0, 0, 3, 2), r);
@@ -144,25 +135,24 @@ fn half_units(r: &mut Record) {
     let product = "frost_half_unit_product";
     two("P12", product, half(5), half(2), fields(27, 0, 10, -1), r);
     let (wide, less) = (word(32, 0, 0), word(31, 0, 0));
-    let both_wide = Case { first: wide, depth: 0, second: wide };
-    refused("widths 32 and 32", product, both_wide, 6, r);
+    refused("widths 32 and 32", product, Case::pair(wide, wide), 6, r);
     two("widths 32 and 31", product, wide, less, fields(0, 0, 63, -1), r);
 }
 
 /// P14: the words put, those handed out, and those kept after it.
 fn running_sum(record: &mut Record) {
+    let sum = |number, round| RunningSum::made(RoundBit::made(fields(number, round, 8, 0)), 2);
     let first = ((3, 0), (0, 1), (-1, 0));
     let second = ((3, 0), (0, 1), (-2, 0));
     let third = ((0, 1), (-1, 1), (-2, 1));
-    let mut kept = word(8, 0, 0);
-    let open = compare(OPEN, &sum_and_word(kept, kept), record);
+    let mut kept = sum(0, 0);
+    let open = compare(OPEN, &Case::on(kept, Operand::BLANK), record);
     expect("P14, opened", open, 0, BLANK, record);
     for (put, out, left) in [first, second, third] {
-        let reply = compare(PUT, &sum_and_word(kept, word(8, put.0, put.1)), record);
+        let reply = compare(PUT, &Case::on(kept, word(8, put.0, put.1)), record);
         expect("P14, put", reply, 0, BLANK, record);
-        let (filled, _) = reply.sum.expect("a running sum in the answer");
-        let filled = word(8, filled.number as i64, filled.round as u8);
-        let reply = compare(HAND_OUT, &sum_and_word(filled, filled), record);
+        let filled = reply.sum.expect("a running sum in the answer");
+        let reply = compare(HAND_OUT, &Case::on(filled, Operand::BLANK), record);
         expect(
             "P14, handed out",
             reply,
@@ -170,24 +160,13 @@ fn running_sum(record: &mut Record) {
             fields(out.0, out.1, 6, 2),
             record,
         );
-        kept = word(8, left.0, left.1);
-        let expected = fields(left.0 as i128, left.1 as i128, 8, 0);
-        record.check(reply.sum == Some((expected, 2)), || {
-            let sheet = format!("kept {:?}", expected);
+        kept = sum(left.0, left.1);
+        record.check(reply.sum == Some(kept), || {
             format!(
-                "bench sheet, P14\n  library: {:?}\n  sheet:   {}",
-                reply, sheet
+                "bench sheet, P14\n  library: {:?}\n  sheet:   {:?}",
+                reply, kept
             )
         });
-    }
-}
-
-/// A sum of depth 2, as in P14, and the word to put (unused by other calls).
-fn sum_and_word(kept: Operand, second: Operand) -> Case {
-    Case {
-        first: kept,
-        depth: 2,
-        second,
     }
 }
 
@@ -212,7 +191,13 @@ fn digit_texts(record: &mut Record) {
 fn block_files(record: &mut Record) {
     let mut random = Random::new(1, 1);
     let mut good = |width: u8, unit: i8, count: usize| {
-        let mut block = blocks::good(&mut random, 1, width.min(32), unit, count);
+        let mut block = blocks::good(
+            &mut random,
+            ROUND_BIT,
+            width.min(MOST_FILE_WIDTH),
+            unit,
+            count,
+        );
         block.width = width;
         block.bytes()
     };
@@ -224,7 +209,7 @@ fn block_files(record: &mut Record) {
         ("unit byte 80", good(9, -128, 3), 2),
     ];
     for (line, file, refusal) in lines {
-        let head = files::compare_read(&file, 8_001, 8_001, record);
+        let head = files_read::compare_read(&file, 8_001, 8_001, record);
         record.check(head.refusal == refusal, || {
             format!(
                 "bench sheet, {}\n  library: {:?}\n  sheet:   {}",

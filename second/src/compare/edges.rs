@@ -1,38 +1,50 @@
-//! Words, depths and texts at and just past the edges of what is allowed.
+//! Words and depths at and just past the edges of what is allowed.
 
+use super::call::compare_all;
+use super::case::{Operand, Takes};
 use super::job::Job;
-use super::operations::{compare_all, Operand, Takes, OPERATIONS};
-use super::tally::{Record, OPERATION_ROWS};
-use super::texts;
+use super::limits::*;
+use super::operations::OPERATIONS;
+use super::tally::Record;
 
-const WIDTHS: [u32; 11] = [0, 1, 2, 3, 31, 32, 33, 62, 63, 64, u32::MAX];
-const UNITS: [i32; 11] = [
+const EDGE_WIDTHS: [u32; 11] = [
+    LEAST_WIDTH - 2,
+    LEAST_WIDTH - 1,
+    LEAST_WIDTH,
+    LEAST_WIDTH + 1,
+    HALF_WIDTH - 1,
+    HALF_WIDTH,
+    HALF_WIDTH + 1,
+    MOST_WIDTH - 1,
+    MOST_WIDTH,
+    MOST_WIDTH + 1,
+    u32::MAX,
+];
+pub const EDGE_UNITS: [i32; 11] = [
     i32::MIN,
-    -128,
-    -127,
-    -126,
+    LEAST_UNIT - 1,
+    LEAST_UNIT,
+    LEAST_UNIT + 1,
     -1,
     0,
     1,
-    126,
-    127,
-    128,
+    MOST_UNIT - 1,
+    MOST_UNIT,
+    MOST_UNIT + 1,
     i32::MAX,
 ];
 const ROUNDS: [u8; 4] = [0, 1, 2, 255];
 
 pub fn jobs() -> Vec<Job> {
     let mut jobs = Vec::new();
-    for row in 0..OPERATION_ROWS {
+    for row in 0..OPERATIONS.len() {
         let name = format!("edges, {}", OPERATIONS[row].name);
         jobs.push(Job::new(name, move |record| edge_cases(row, record)));
     }
-    for row in 0..OPERATION_ROWS {
+    for row in 0..OPERATIONS.len() {
         let name = format!("every width, {}", OPERATIONS[row].name);
         jobs.push(Job::new(name, move |record| every_width(row, record)));
     }
-    jobs.push(Job::new("edges, frost_digit_text_write", write_texts));
-    jobs.push(Job::new("edges, frost_digit_text_read", read_texts));
     jobs
 }
 
@@ -48,31 +60,33 @@ fn edge_cases(row: usize, record: &mut Record) {
     compare_all(row, &all, edge_depths, &all, record);
 }
 
-/// No width from 2 to 63 is left out, with every depth there is for it; pairs
+/// No width is left out, with every depth there is for it; pairs
 /// of all widths have fewer depths and numbers.
 fn every_width(row: usize, record: &mut Record) {
     let takes = OPERATIONS[row].takes;
-    let widths: Vec<u32> = (2..=63).collect();
+    let widths: Vec<u32> = (LEAST_WIDTH..=MOST_WIDTH).collect();
     if takes.second {
         let words = good_words(takes, &widths, &[0], fewer_numbers);
         compare_all(row, &words, edge_depths, &words, record);
     } else {
-        let words = good_words(takes, &widths, &[-127, -66, -3, 0, 3, 66, 127], end_numbers);
-        compare_all(row, &words, |_| (0..=65).collect(), &[], record);
+        let units = [LEAST_UNIT, -66, -3, 0, 3, 66, MOST_UNIT];
+        let words = good_words(takes, &widths, &units, end_numbers);
+        let depths = |_| (0..=MOST_WIDTH as u64 + 2).collect();
+        compare_all(row, &words, depths, &[], record);
     }
 }
 
 /// All combinations of the edges of one operand.
-fn edge_words(takes: Takes) -> Vec<Operand> {
+pub fn edge_words(takes: Takes) -> Vec<Operand> {
     let mut words = Vec::new();
-    for width in WIDTHS {
+    for width in EDGE_WIDTHS {
         let numbers = if takes.number {
             edge_numbers(width)
         } else {
             vec![0]
         };
         for &number in &numbers {
-            for &unit in &UNITS {
+            for &unit in &EDGE_UNITS {
                 for &round in rounds(takes, &ROUNDS) {
                     words.push(Operand {
                         number,
@@ -98,7 +112,7 @@ fn rounds(takes: Takes, rounds: &[u8]) -> &[u8] {
 /// Both ends of the width and of i64, their neighbours, and the middle.
 fn edge_numbers(width: u32) -> Vec<i64> {
     // Widths 0 and over 64 have no ends of their own that an i64 can hold.
-    let half = 1i128 << (width.clamp(1, 64) - 1);
+    let half = 1i128 << (width.clamp(1, i64::BITS) - 1);
     let wanted = [
         -half - 1,
         -half,
@@ -124,7 +138,8 @@ fn edge_numbers(width: u32) -> Vec<i64> {
 /// 257 and 2^32 + 1 look like 1 to a program that drops their high digits.
 fn edge_depths(width: u32) -> Vec<u64> {
     let n = width as u64;
-    let mut depths = vec![0, 1, 2, n, 62, 63, 64, 257];
+    let most = MOST_WIDTH as u64;
+    let mut depths = vec![0, 1, 2, n, most - 1, most, most + 1, 257];
     depths.extend((1..=3).filter_map(|k| n.checked_sub(k)));
     depths.extend([1 << 32, (1 << 32) + 1, 1 << 63, u64::MAX - 1, u64::MAX]);
     depths.sort();
@@ -134,8 +149,18 @@ fn edge_depths(width: u32) -> Vec<u64> {
 
 /// For pairs: good words of every format that matters, then bad ones.
 fn shorter_list(takes: Takes) -> Vec<Operand> {
-    let widths = [2, 3, 31, 32, 33, 62, 63];
-    let units = [-127, -64, -63, 0, 1, 63, 64, 127];
+    let good = |width: &u32| (LEAST_WIDTH..=MOST_WIDTH).contains(width);
+    let widths: Vec<u32> = EDGE_WIDTHS.into_iter().filter(good).collect();
+    let units = [
+        LEAST_UNIT,
+        -HALF_UNIT,
+        -HALF_UNIT + 1,
+        0,
+        1,
+        HALF_UNIT - 1,
+        HALF_UNIT,
+        MOST_UNIT,
+    ];
     let mut words = good_words(takes, &widths, &units, end_numbers);
     words.extend(bad_words(takes));
     words
@@ -143,8 +168,15 @@ fn shorter_list(takes: Takes) -> Vec<Operand> {
 
 /// For a running sum and a word, which have the depths besides.
 fn few_words(takes: Takes) -> Vec<Operand> {
-    let widths = [2, 3, 4, 32, 62, 63];
-    let units = [-127, 0, 125, 127];
+    let widths = [
+        LEAST_WIDTH,
+        LEAST_WIDTH + 1,
+        LEAST_WIDTH + 2,
+        HALF_WIDTH,
+        MOST_WIDTH - 1,
+        MOST_WIDTH,
+    ];
+    let units = [LEAST_UNIT, 0, MOST_UNIT - 2, MOST_UNIT];
     let mut words = good_words(takes, &widths, &units, fewer_numbers);
     words.extend(bad_words(takes).iter().step_by(3));
     words
@@ -194,8 +226,8 @@ fn good_words(
 /// Words with one cause, and with several, so that their order is seen.
 fn bad_words(takes: Takes) -> Vec<Operand> {
     let mut words = Vec::new();
-    for width in [0, 1, 64, u32::MAX, 5] {
-        for unit in [i32::MIN, -128, 0, 128, i32::MAX] {
+    for width in [0, LEAST_WIDTH - 1, MOST_WIDTH + 1, u32::MAX, 5] {
+        for unit in [i32::MIN, LEAST_UNIT - 1, 0, MOST_UNIT + 1, i32::MAX] {
             for number in [i64::MIN, -17, 0, 16, i64::MAX] {
                 for &round in rounds(takes, &[0, 2, 255]) {
                     let good = width == 5 && unit == 0 && number == 0 && round == 0;
@@ -212,75 +244,4 @@ fn bad_words(takes: Takes) -> Vec<Operand> {
         }
     }
     words
-}
-
-const ROUND_BIT_WORD: Takes = Takes {
-    number: true,
-    round: true,
-    depth: false,
-    second: false,
-};
-
-fn write_texts(record: &mut Record) {
-    for word in edge_words(ROUND_BIT_WORD) {
-        // A width that is no width has no text: any small room will do.
-        let n = if word.width <= 64 {
-            word.width as usize
-        } else {
-            64
-        };
-        for room in [0, 1, n.saturating_sub(1), n, n + 1, 300] {
-            texts::compare_write(word, room, record);
-        }
-    }
-}
-
-/// 258, 319 and 65538 look like 2, 63 and 2 to a program that drops digits.
-const LENGTHS: [usize; 19] = [
-    0, 1, 2, 3, 31, 32, 33, 61, 62, 63, 64, 65, 100, 127, 256, 258, 319, 320, 65538,
-];
-
-fn read_texts(record: &mut Record) {
-    for length in LENGTHS {
-        for text in edge_texts(length) {
-            for unit in UNITS {
-                texts::compare_read(&text, unit, record);
-            }
-        }
-    }
-}
-
-/// Zeros; one digit at each end; both ends alike and unlike; every place
-/// filled; and each of these with a strange byte at either end.
-fn edge_texts(length: usize) -> Vec<Vec<u8>> {
-    let mut texts = vec![vec![b'0'; length]];
-    for first in [b'+', b'-', b'0'] {
-        for last in [b'+', b'-', b'0', b' '] {
-            texts.push(with_ends(length, first, last));
-            texts.push(with_ends(length, last, first));
-        }
-        texts.push(alternating(length, first));
-    }
-    let mut middle = alternating(length, b'-');
-    if length > 2 {
-        middle[length / 2] = middle[length / 2 - 1];
-    }
-    texts.push(middle);
-    texts
-}
-
-fn with_ends(length: usize, first: u8, last: u8) -> Vec<u8> {
-    let mut text = vec![b'0'; length];
-    if length > 0 {
-        text[length - 1] = last;
-        text[0] = first;
-    }
-    text
-}
-
-fn alternating(length: usize, first: u8) -> Vec<u8> {
-    let other = if first == b'+' { b'-' } else { b'+' };
-    (0..length)
-        .map(|i| if i % 2 == 0 { first } else { other })
-        .collect()
 }

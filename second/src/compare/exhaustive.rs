@@ -1,24 +1,54 @@
 //! All words of small widths, all pairs, all depths, and all short texts.
 
+use super::call::compare_all;
+use super::case::{Operand, Takes, ROUND_BIT_WORD};
 use super::job::Job;
-use super::operations::{compare_all, Fields, Operand, Takes, OPERATIONS};
-use super::tally::{Record, OPERATION_ROWS};
+use super::limits::*;
+use super::operations::OPERATIONS;
+use super::tally::Record;
 use super::texts;
+use crate::model::causes::DONE;
 
 /// Unit 0, and units so near the ends that small depths pass them.
-const UNITS: [i32; 9] = [-127, -126, -124, -121, 0, 121, 124, 126, 127];
+const NEAR_UNITS: [i32; 9] = [
+    LEAST_UNIT,
+    LEAST_UNIT + 1,
+    LEAST_UNIT + 3,
+    LEAST_UNIT + 6,
+    0,
+    MOST_UNIT - 6,
+    MOST_UNIT - 3,
+    MOST_UNIT - 1,
+    MOST_UNIT,
+];
 
 /// For pairs: two of them add up to an end, or pass it by one.
-const PAIR_UNITS: [i32; 6] = [-127, -64, 0, 63, 64, 126];
+const PAIR_UNITS: [i32; 6] = [
+    LEAST_UNIT,
+    -HALF_UNIT,
+    0,
+    HALF_UNIT - 1,
+    HALF_UNIT,
+    MOST_UNIT - 1,
+];
 
-const HUGE_DEPTHS: [u64; 5] = [63, 64, 1 << 32, 1 << 63, u64::MAX];
+const WIDEST: u32 = 6;
+const WIDEST_OF_PAIRS: u32 = 5;
+
+const HUGE_DEPTHS: [u64; 5] = [
+    MOST_WIDTH as u64,
+    MOST_WIDTH as u64 + 1,
+    1 << 32,
+    1 << 63,
+    u64::MAX,
+];
 
 /// Bytes that are no digits: neighbours of `+`, `0`, `-`, and some others.
 const STRANGE: [u8; 9] = [b'1', b'*', b',', b'.', b'/', 0, 0x80, b'+' + 0x80, 0xFF];
 
 pub fn jobs() -> Vec<Job> {
     let mut jobs = Vec::new();
-    for row in 0..OPERATION_ROWS {
+    for row in 0..OPERATIONS.len() {
         let name = format!("exhaustive, {}", OPERATIONS[row].name);
         jobs.push(Job::new(name, move |record| exhaust(row, record)));
     }
@@ -31,17 +61,17 @@ pub fn jobs() -> Vec<Job> {
 fn exhaust(row: usize, record: &mut Record) {
     let takes = OPERATIONS[row].takes;
     let all = if takes.second {
-        words(takes, 5, &PAIR_UNITS)
+        words(takes, WIDEST_OF_PAIRS, &PAIR_UNITS)
     } else {
-        words(takes, 6, &UNITS)
+        words(takes, WIDEST, &NEAR_UNITS)
     };
     compare_all(row, &all, depths, &all, record);
 }
 
-/// All words of widths 2 to the widest.
+/// All words of the least width to the widest.
 fn words(takes: Takes, widest: u32, units: &[i32]) -> Vec<Operand> {
     let mut words = Vec::new();
-    for width in 2..=widest {
+    for width in LEAST_WIDTH..=widest {
         let half = if takes.number { 1i64 << (width - 1) } else { 0 };
         let last_round = if takes.round { 1 } else { 0 };
         for number in -half..=(half - 1).max(0) {
@@ -66,15 +96,8 @@ fn depths(width: u32) -> Vec<u64> {
     depths
 }
 
-const ROUND_BIT_WORD: Takes = Takes {
-    number: true,
-    round: true,
-    depth: false,
-    second: false,
-};
-
 fn write_texts(record: &mut Record) {
-    for word in words(ROUND_BIT_WORD, 6, &UNITS) {
+    for word in words(ROUND_BIT_WORD, WIDEST, &NEAR_UNITS) {
         let n = word.width as usize;
         for room in [0, 1, n - 1, n, n + 1, n + 20] {
             texts::compare_write(word, room, record);
@@ -84,9 +107,9 @@ fn write_texts(record: &mut Record) {
 
 fn read_texts(record: &mut Record) {
     for strange in STRANGE {
-        for length in 0..=6 {
+        for length in 0..=WIDEST {
             for text in texts_over([b'+', b'0', b'-', strange], length) {
-                for unit in [0, -127, 127, -128, 128] {
+                for unit in [0, LEAST_UNIT, MOST_UNIT, LEAST_UNIT - 1, MOST_UNIT + 1] {
                     texts::compare_read(&text, unit, record);
                 }
             }
@@ -113,7 +136,7 @@ fn texts_over(letters: [u8; 4], length: u32) -> Vec<Vec<u8>> {
 /// The library's own texts, read by it: every word comes back as itself, but
 /// (-1,1) as (0,0).
 fn read_back(record: &mut Record) {
-    for word in words(ROUND_BIT_WORD, 6, &[0, 127]) {
+    for word in words(ROUND_BIT_WORD, WIDEST, &[0, MOST_UNIT]) {
         let text = texts::compare_write(word, word.width as usize, record);
         let back = texts::compare_read(&text, word.unit, record);
         let minus_one_and_one = word.number == -1 && word.round == 1;
@@ -126,13 +149,8 @@ fn read_back(record: &mut Record) {
         } else {
             word
         };
-        let expected = Fields {
-            number: same.number as i128,
-            round: same.round as i128,
-            width: same.width as i128,
-            unit: same.unit as i128,
-        };
-        record.check(back.refusal == 0 && back.word == expected, || {
+        let good = back.refusal == DONE && back.word == same.fields();
+        record.check(good, || {
             format!(
                 "a text read back\n  case:    {:?}\n  library: {:?}",
                 word, back

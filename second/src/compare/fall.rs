@@ -1,7 +1,7 @@
 //! If the library falls (a panic that aborts, a bad address) the whole process
 //! falls with it. This prints the case that it fell on, then ends with 1.
 
-use super::operations::Case;
+use super::case::Case;
 use std::cell::Cell;
 use std::sync::atomic::{AtomicUsize, Ordering};
 

@@ -3,14 +3,17 @@
 //! costs no more than its addresses; where even these cannot be had, the part
 //! says so and counts as neither passed nor failed.
 
+use super::case::{Operand, Reply};
 use super::fall;
-use super::files::head;
 use super::job::Job;
 use super::library::*;
-use super::operations::{Operand, Reply};
-use super::tally::{Record, FILE_READ, FILE_WRITE, LISTING_CALL, TEXT_READ, TEXT_WRITE};
-use super::texts::written;
-use crate::model::{block_file, digit_text, listing};
+use super::limits::LAYOUT;
+use super::operations::{FILE_READ, FILE_WRITE, LISTING_CALL, TEXT_READ, TEXT_WRITE};
+use super::tally::Record;
+use crate::model::block_file::{self, Block};
+use crate::model::kinds::ROUND_BIT;
+use crate::model::layout::{FileNumber, HEAD_BYTES};
+use crate::model::{digit_text, listing};
 use std::alloc::{alloc_zeroed, dealloc, Layout};
 use std::fmt::Debug;
 
@@ -107,7 +110,7 @@ fn text_length(huge: &mut Huge, record: &mut Record) {
     huge.hold(b"0+");
     let answer = unsafe { frost_digit_text_read(huge.memory, PAST + 2, 0) };
     record.answer(TEXT_READ, answer.refusal);
-    let library: Reply = answer.into();
+    let library: Reply = answer.model().into();
     let after = huge.head();
     huge.hold(b"0+");
     let second: Reply = digit_text::read(huge.slice(PAST + 2), 0).into();
@@ -121,11 +124,12 @@ fn text_length(huge: &mut Huge, record: &mut Record) {
 
 fn text_room(huge: &mut Huge, record: &mut Record) {
     huge.hold(b"some bytes");
-    let library = written(unsafe { frost_digit_text_write(WORD.into(), huge.memory, PAST + 1) });
+    let library =
+        unsafe { frost_digit_text_write(WORD.for_library(), huge.memory, PAST + 1) }.model();
     record.answer(TEXT_WRITE, library.refusal);
     let after = huge.head();
     huge.hold(b"some bytes");
-    let second = digit_text::write(WORD.into(), huge.slice(PAST + 1));
+    let second = digit_text::write(WORD.word(), huge.slice(PAST + 1));
     same(
         "frost_digit_text_write, room 2^32 + 1",
         (library, after),
@@ -145,13 +149,13 @@ fn file_length(huge: &mut Huge, record: &mut Record) {
     let mut rounds = [9; 4];
     let answer = unsafe {
         let (n, r) = (numbers.as_mut_ptr(), rounds.as_mut_ptr());
-        frost_file_read(huge.memory, PAST + 12, n, 4, r, 4)
+        frost_file_read(huge.memory, PAST + HEAD_BYTES, n, 4, r, 4)
     };
     record.answer(FILE_READ, answer.refusal);
     let after = huge.head();
     huge.hold(EMPTY_FILE);
-    let second = block_file::read(huge.slice(PAST + 12), &mut [9; 4], &mut [9; 4]);
-    let library = (head(answer), numbers, rounds);
+    let second = block_file::read(huge.slice(PAST + HEAD_BYTES), &mut [9; 4], &mut [9; 4]);
+    let library = (answer.model(), numbers, rounds);
     let second = (second, [9; 4], [9; 4]);
     same(
         "frost_file_read, 2^32 + 12 bytes",
@@ -180,7 +184,7 @@ fn file_rooms(huge: &mut Huge, record: &mut Record) {
     huge.hold(b"some bytes");
     let mut second_numbers = [9; 4];
     let second = block_file::read(TWO_RECORDS, &mut second_numbers, huge.slice(PAST + 1));
-    let library = (head(answer), numbers);
+    let library = (answer.model(), numbers);
     let second = (second, second_numbers);
     same(
         "frost_file_read, room 2^32 + 1",
@@ -190,12 +194,28 @@ fn file_rooms(huge: &mut Huge, record: &mut Record) {
     );
 }
 
-fn write(numbers: &[i32], rounds: (*const u8, usize), out: (*mut u8, usize)) -> FrostWritten {
+/// What the calls below write: round-bit words of width 5 and unit 0.
+fn block<'a>(numbers: &'a [FileNumber], rounds: &'a [u8]) -> Block<'a> {
+    Block {
+        kind: ROUND_BIT.byte,
+        width: 5,
+        unit: 0,
+        numbers,
+        rounds,
+    }
+}
+
+fn write(
+    numbers: &[FileNumber],
+    rounds: (*const u8, usize),
+    out: (*mut u8, usize),
+) -> FrostWritten {
+    let block = block(numbers, &[]);
     unsafe {
         frost_file_write(
-            1,
-            5,
-            0,
+            block.kind as u32,
+            block.width as u32,
+            block.unit as i32,
             numbers.as_ptr(),
             numbers.len(),
             rounds.0,
@@ -209,12 +229,12 @@ fn write(numbers: &[i32], rounds: (*const u8, usize), out: (*mut u8, usize)) -> 
 fn unlike_lengths(huge: &mut Huge, record: &mut Record) {
     huge.hold(&[1]);
     let mut out = [9; 64];
-    let library = written(write(&[5], (huge.memory, PAST + 1), (out.as_mut_ptr(), 64)));
+    let library = write(&[5], (huge.memory, PAST + 1), (out.as_mut_ptr(), 64)).model();
     record.answer(FILE_WRITE, library.refusal);
     let after = huge.head();
     huge.hold(&[1]);
     let mut second_out = [9; 64];
-    let second = block_file::write(1, 5, 0, &[5], huge.slice(PAST + 1), &mut second_out);
+    let second = block_file::write(LAYOUT, block(&[5], huge.slice(PAST + 1)), &mut second_out);
     let library = ((library, out), after);
     let second = ((second, second_out), huge.head());
     same(
@@ -227,11 +247,11 @@ fn unlike_lengths(huge: &mut Huge, record: &mut Record) {
 
 fn written_room(huge: &mut Huge, record: &mut Record) {
     huge.hold(b"some bytes");
-    let library = written(write(&[5], ([1].as_ptr(), 1), (huge.memory, PAST + 3)));
+    let library = write(&[5], ([1].as_ptr(), 1), (huge.memory, PAST + 3)).model();
     record.answer(FILE_WRITE, library.refusal);
     let after = huge.head();
     huge.hold(b"some bytes");
-    let second = block_file::write(1, 5, 0, &[5], &[1], huge.slice(PAST + 3));
+    let second = block_file::write(LAYOUT, block(&[5], &[1]), huge.slice(PAST + 3));
     same(
         "frost_file_write, room 2^32 + 3",
         (library, after),
@@ -243,13 +263,14 @@ fn written_room(huge: &mut Huge, record: &mut Record) {
 fn listed_length(huge: &mut Huge, record: &mut Record) {
     huge.hold(EMPTY_FILE);
     let mut out = [9; 64];
-    let answer = unsafe { frost_listing_text(huge.memory, PAST + 12, out.as_mut_ptr(), 64) };
-    let library = written(answer);
+    let answer =
+        unsafe { frost_listing_text(huge.memory, PAST + HEAD_BYTES, out.as_mut_ptr(), 64) };
+    let library = answer.model();
     record.answer(LISTING_CALL, library.refusal);
     let after = huge.head();
     huge.hold(EMPTY_FILE);
     let mut second_out = [9; 64];
-    let second = listing::write(huge.slice(PAST + 12), &mut second_out);
+    let second = listing::write(huge.slice(PAST + HEAD_BYTES), &mut second_out);
     let library = ((library, out), after);
     let second = ((second, second_out), huge.head());
     same(
@@ -264,7 +285,7 @@ fn listed_room(huge: &mut Huge, record: &mut Record) {
     huge.hold(b"some bytes");
     let file = (TWO_RECORDS.as_ptr(), TWO_RECORDS.len());
     let answer = unsafe { frost_listing_text(file.0, file.1, huge.memory, PAST + 4) };
-    let library = written(answer);
+    let library = answer.model();
     record.answer(LISTING_CALL, library.refusal);
     let after = huge.head();
     huge.hold(b"some bytes");

@@ -1,6 +1,7 @@
 //! The parts of the comparison, and how they are run.
 
 use super::fall;
+use super::operations::rows;
 use super::tally::Record;
 use std::sync::atomic::Ordering;
 
@@ -23,7 +24,7 @@ impl Job {
 /// after the other: a second thread makes an emulator slower than one alone.
 pub fn run_all(jobs: &[Job]) -> (Vec<bool>, Record) {
     let mut results = Vec::new();
-    let mut total = Record::new();
+    let mut total = Record::new(rows().len());
     for job in jobs {
         let record = run_one(job);
         results.push(is_good(&record));
@@ -38,7 +39,7 @@ fn is_good(record: &Record) -> bool {
 }
 
 fn run_one(job: &Job) -> Record {
-    let mut record = Record::new();
+    let mut record = Record::new(rows().len());
     (job.run)(&mut record);
     let good = is_good(&record);
     let ended = if good { &fall::PASSED } else { &fall::FAILED };

@@ -1,6 +1,8 @@
 //! Buffers to lend: each stands between two margins, and buffer and margins
 //! hold a pattern, so that a byte changed anywhere is seen afterwards.
 
+use crate::model::layout::FileNumber;
+
 const MARGIN: usize = 64;
 
 #[derive(Clone, Debug, PartialEq)]
@@ -30,14 +32,14 @@ impl Lent<u8> {
     }
 }
 
-impl Lent<i32> {
-    pub fn numbers(room: usize, salt: u64) -> Lent<i32> {
+impl Lent<FileNumber> {
+    pub fn numbers(room: usize, salt: u64) -> Lent<FileNumber> {
         let whole = (0..room + 2 * MARGIN)
-            .map(|i| pattern(i, salt) as i32)
+            .map(|i| pattern(i, salt) as FileNumber)
             .collect();
         Lent { whole, room }
     }
-    pub fn holding_numbers(content: &[i32], salt: u64) -> Lent<i32> {
+    pub fn holding_numbers(content: &[FileNumber], salt: u64) -> Lent<FileNumber> {
         let mut lent = Lent::numbers(content.len(), salt);
         lent.lend().copy_from_slice(content);
         lent

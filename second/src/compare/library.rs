@@ -1,62 +1,136 @@
-//! The library under test, as its C header declares it.
+//! The library under test, as its C header declares it, and how its structs
+//! are made from the model's values and opened up into them: nothing else
+//! looks into the header's structs.
 
-/// Makes one C word type; the plain and the half-unit words have the same
-/// fields, yet each is a type of its own, as in the header.
-macro_rules! word_without_round_bit {
-    ($word:ident, $answer:ident) => {
+use crate::model::block_file::Head;
+use crate::model::running_sum::{RunningSum, SumAnswer};
+use crate::model::words::{Answer, HalfUnit, Plain, RoundBit, Written};
+
+/// A struct of the header that has a like in the model.
+pub trait OfModel {
+    type Model;
+    fn of(model: Self::Model) -> Self;
+    fn model(self) -> Self::Model;
+}
+
+/// Makes a C word and its answer; each kind is a type of its own, also where
+/// the fields are alike, as in the header.
+macro_rules! word {
+    ($word:ident, $answer:ident, $model:ident $(, $round:ident)?) => {
         #[repr(C)]
-        #[derive(Clone, Copy, Debug)]
+        #[derive(Clone, Copy)]
         pub struct $word {
             pub number: i64,
             pub width: u32,
             pub unit: i32,
+            $(pub $round: u8,)?
+        }
+
+        impl OfModel for $word {
+            type Model = $model;
+
+            fn of(model: $model) -> $word {
+                $word {
+                    number: model.number as i64,
+                    width: model.width as u32,
+                    unit: model.unit as i32,
+                    $($round: model.$round as u8,)?
+                }
+            }
+
+            fn model(self) -> $model {
+                $model {
+                    number: self.number as i128,
+                    width: self.width as i128,
+                    unit: self.unit as i128,
+                    $($round: self.$round as i128,)?
+                }
+            }
         }
 
         #[repr(C)]
-        #[derive(Clone, Copy, Debug)]
+        #[derive(Clone, Copy)]
         pub struct $answer {
             pub word: $word,
             pub refusal: u32,
         }
+
+        impl OfModel for $answer {
+            type Model = Answer<$model>;
+
+            fn of(model: Answer<$model>) -> $answer {
+                $answer {
+                    word: OfModel::of(model.word),
+                    refusal: model.refusal,
+                }
+            }
+
+            fn model(self) -> Answer<$model> {
+                Answer {
+                    word: self.word.model(),
+                    refusal: self.refusal,
+                }
+            }
+        }
     };
 }
 
-word_without_round_bit!(FrostPlain, FrostPlainAnswer);
-word_without_round_bit!(FrostHalfUnit, FrostHalfUnitAnswer);
+word!(FrostPlain, FrostPlainAnswer, Plain);
+word!(FrostHalfUnit, FrostHalfUnitAnswer, HalfUnit);
+word!(FrostRoundBit, FrostRoundBitAnswer, RoundBit, round);
 
 #[repr(C)]
-#[derive(Clone, Copy, Debug)]
-pub struct FrostRoundBit {
-    pub number: i64,
-    pub width: u32,
-    pub unit: i32,
-    pub round: u8,
-}
-
-#[repr(C)]
-#[derive(Clone, Copy, Debug)]
-pub struct FrostRoundBitAnswer {
-    pub word: FrostRoundBit,
-    pub refusal: u32,
-}
-
-#[repr(C)]
-#[derive(Clone, Copy, Debug)]
+#[derive(Clone, Copy)]
 pub struct FrostRunningSum {
     pub kept: FrostRoundBit,
     pub depth: u64,
 }
 
+impl OfModel for FrostRunningSum {
+    type Model = RunningSum;
+
+    fn of(model: RunningSum) -> FrostRunningSum {
+        FrostRunningSum {
+            kept: OfModel::of(model.kept),
+            depth: model.depth as u64,
+        }
+    }
+
+    fn model(self) -> RunningSum {
+        RunningSum::made(self.kept.model(), self.depth as i128)
+    }
+}
+
 #[repr(C)]
-#[derive(Clone, Copy, Debug)]
+#[derive(Clone, Copy)]
 pub struct FrostSumAnswer {
     pub sum: FrostRunningSum,
     pub word: FrostRoundBit,
     pub refusal: u32,
 }
 
+impl OfModel for FrostSumAnswer {
+    type Model = SumAnswer;
+
+    fn of(model: SumAnswer) -> FrostSumAnswer {
+        FrostSumAnswer {
+            sum: OfModel::of(model.sum),
+            word: OfModel::of(model.word),
+            refusal: model.refusal,
+        }
+    }
+
+    fn model(self) -> SumAnswer {
+        SumAnswer {
+            sum: self.sum.model(),
+            word: self.word.model(),
+            refusal: self.refusal,
+        }
+    }
+}
+
 #[repr(C)]
-#[derive(Clone, Copy, Debug)]
+#[derive(Clone, Copy)]
 pub struct FrostFileHead {
     pub refusal: u32,
     pub kind: u32,
@@ -65,11 +139,53 @@ pub struct FrostFileHead {
     pub count: u32,
 }
 
+impl OfModel for FrostFileHead {
+    type Model = Head;
+
+    fn of(model: Head) -> FrostFileHead {
+        FrostFileHead {
+            refusal: model.refusal,
+            kind: model.kind as u32,
+            width: model.width as u32,
+            unit: model.unit as i32,
+            count: model.count as u32,
+        }
+    }
+
+    fn model(self) -> Head {
+        Head {
+            kind: self.kind as i128,
+            width: self.width as i128,
+            unit: self.unit as i128,
+            count: self.count as i128,
+            refusal: self.refusal,
+        }
+    }
+}
+
 #[repr(C)]
-#[derive(Clone, Copy, Debug)]
+#[derive(Clone, Copy)]
 pub struct FrostWritten {
     pub bytes: u64,
     pub refusal: u32,
+}
+
+impl OfModel for FrostWritten {
+    type Model = Written;
+
+    fn of(model: Written) -> FrostWritten {
+        FrostWritten {
+            bytes: model.bytes as u64,
+            refusal: model.refusal,
+        }
+    }
+
+    fn model(self) -> Written {
+        Written {
+            bytes: self.bytes as i128,
+            refusal: self.refusal,
+        }
+    }
 }
 
 extern "C" {

@@ -1,25 +1,30 @@
 //! Listings: the text that the library puts into a lent buffer, and the listing
 //! program, run as a program on a thousand files.
 
-use super::blocks;
+use super::bad_blocks;
+use super::blocks::{self, any_file, each_byte_damaged, file_text, RANDOM_FILES};
 use super::fall;
-use super::files::{any_file, each_byte_damaged, file_text, random_room, RANDOM_FILES};
 use super::job::Job;
 use super::lent::Lent;
-use super::library::frost_listing_text;
+use super::library::{frost_listing_text, OfModel};
+use super::limits::*;
+use super::operations::{LISTING_CALL, LISTING_PRINTED, PROGRAM_PRINTED};
 use super::random::Random;
-use super::tally::{Record, LISTING_CALL, LISTING_PRINTED, PROGRAM_PRINTED};
-use super::texts::written;
+use super::tally::Record;
+use crate::model::causes::DONE;
+use crate::model::kinds::KINDS;
 use crate::model::listing;
 use std::io::Write;
 use std::process::{ChildStdin, Command, Stdio};
 use std::time::Duration;
 
-/// Bytes: a first line as `PLAIN 32 -127 8000`, and a line as `7999 -2147483648 1 -4294967296` for every record.
-const ENOUGH: usize = 19 + 31 * 8_000;
+/// The longest lines there are; so many bytes are enough for any listing.
+const FIRST_LINE: &str = "PLAIN 32 -127 8000\n";
+const RECORD_LINE: &str = "7999 -2147483648 1 -4294967296\n";
+const ENOUGH: usize = FIRST_LINE.len() + RECORD_LINE.len() * MOST_RECORDS;
 
 /// Bytes: files with nearly as many records as any.
-const LONG_FILE: usize = 12 + 5 * 7_999;
+const LONG_FILE: usize = LONGEST_FILE - LAYOUT.record_bytes;
 
 pub fn jobs(seed: u64, program: &str) -> Vec<Job> {
     let program = program.to_string();
@@ -48,10 +53,10 @@ fn compare_listing(file: &[u8], text: &str, room: usize, record: &mut Record) {
     fall::about_to_call("frost_listing_text", None, file);
     let answer = unsafe { frost_listing_text(lent.pointer(), file.len(), out.pointer(), room) };
     fall::back();
-    let library = written(answer);
+    let library = answer.model();
     let second = listing::write(file, second_out.lend());
     record.answer(LISTING_CALL, library.refusal);
-    if library.refusal == 0 {
+    if library.refusal == DONE {
         let length = (library.bytes as usize).min(room);
         record.answer(LISTING_PRINTED, printed_number(&out.content()[..length]));
     }
@@ -80,7 +85,7 @@ fn printed_number(text: &[u8]) -> u32 {
     let text = String::from_utf8_lossy(text);
     match text.strip_prefix("refused ") {
         Some(number) => number.trim_end_matches('\n').parse().unwrap_or(u32::MAX),
-        None => 0,
+        None => DONE,
     }
 }
 
@@ -102,8 +107,8 @@ fn list_into_large_rooms(file: &[u8], record: &mut Record) {
 }
 
 fn list_damaged(random: &mut Random, record: &mut Record) {
-    for kind in 0..3 {
-        for width in [2, 31, 32] {
+    for &kind in KINDS {
+        for width in [LEAST_FILE_WIDTH, MOST_FILE_WIDTH - 1, MOST_FILE_WIDTH] {
             let file = blocks::good(random, kind, width, -7, 2).bytes();
             each_byte_damaged(&file, |damaged| {
                 let text = listing::listing(damaged);
@@ -117,7 +122,7 @@ fn list_random(random: &mut Random, record: &mut Record) {
     for _ in 0..RANDOM_FILES / 4 {
         let file = any_file(random);
         let text = listing::listing(&file);
-        let room = random_room(random, text.len() as u64);
+        let room = random.room(text.len() as u64);
         compare_listing(&file, &text, room, record);
     }
 }
@@ -127,7 +132,7 @@ fn list_thousand(seed: u64, record: &mut Record) {
     record.check(document == blocks::ITS_LISTING, || {
         format!("the listing in the document\n  second:  {:?}", document)
     });
-    for (index, file) in blocks::thousand(seed).iter().enumerate() {
+    for (index, file) in bad_blocks::thousand(seed).iter().enumerate() {
         list_into_all_rooms(file, record);
         // Not all of them: a large buffer takes long to compare.
         if index % 16 == 0 || file.len() >= LONG_FILE {
@@ -139,7 +144,7 @@ fn list_thousand(seed: u64, record: &mut Record) {
 // The listing program.
 
 fn run_listings(seed: u64, program: &str, record: &mut Record) {
-    let files = blocks::thousand(seed);
+    let files = bad_blocks::thousand(seed);
     for (index, file) in files.iter().enumerate() {
         compare_run(program, file, index % 8 == 0, record);
     }

@@ -1,20 +1,27 @@
 //! The comparison: the library under test, through its C functions, against
 //! the model.
 
+mod bad_blocks;
 mod bench_sheet;
 mod blocks;
-mod convert;
+mod call;
+mod case;
+mod edge_texts;
 mod edges;
 mod exhaustive;
 mod fall;
 mod files;
+mod files_read;
+mod files_written;
 mod huge;
 mod job;
 mod lent;
 mod library;
+mod limits;
 mod listings;
 mod operations;
 mod random;
+mod random_cases;
 mod sums;
 mod tally;
 mod texts;
@@ -29,7 +36,7 @@ pub fn all(seed: u64, program: &str) -> (usize, usize) {
     let (results, total) = job::run_all(&all_jobs(seed, program));
     let mut passed = results.iter().filter(|good| **good).count();
     let mut failed = results.len() - passed;
-    for good in total.print_tally() {
+    for good in total.print_tally(&operations::rows()) {
         passed += good as usize;
         failed += !good as usize;
     }
@@ -41,27 +48,25 @@ pub fn all(seed: u64, program: &str) -> (usize, usize) {
 }
 
 fn all_jobs(seed: u64, program: &str) -> Vec<Job> {
-    let mut jobs = vec![Job::new(
-        "the two tables name the same operations",
-        same_names,
-    )];
+    let mut jobs = vec![Job::new("every operation is named once", names)];
     jobs.extend(bench_sheet::jobs());
     jobs.extend(exhaustive::jobs());
     jobs.extend(edges::jobs());
+    jobs.extend(edge_texts::jobs());
     jobs.extend(huge::jobs());
-    jobs.extend(random::jobs(seed));
+    jobs.extend(random_cases::jobs(seed));
     jobs.extend(sums::jobs(seed));
     jobs.extend(files::jobs(seed));
     jobs.extend(listings::jobs(seed, program));
     jobs
 }
 
-/// The tally counts by row, so its rows must be those of the operations.
-fn same_names(record: &mut Record) {
-    for row in 0..tally::OPERATION_ROWS {
-        let (one, other) = (operations::OPERATIONS[row].name, tally::row_name(row));
-        record.check(one == other, || {
-            format!("row {}: {} and {}", row, one, other)
+/// Rows are found by their names.
+fn names(record: &mut Record) {
+    for (row, operation) in operations::OPERATIONS.iter().enumerate() {
+        let first = operations::row_of(operation.name);
+        record.check(first == row, || {
+            format!("{}: rows {} and {}", operation.name, first, row)
         });
     }
 }

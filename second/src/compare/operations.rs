@@ -1,58 +1,16 @@
-//! One table of the operations on words: each is called in the library and in
-//! the second program, and every field of the two answers is compared.
+//! Every operation once: how it is called in the library and in the second
+//! program, and the causes it can refuse by.
 
-use super::fall;
+use super::case::{Case, Reply, Takes, ROUND_BIT_WORD};
 use super::library::*;
-use super::tally::Record;
-use crate::model::running_sum::{self, RunningSum};
-use crate::model::{half_unit, round_bit};
+use super::tally::Row;
+use crate::model::causes::*;
+use crate::model::{half_unit, round_bit, running_sum};
 
-/// The fields of an operand of any kind; kinds without a round bit leave it.
-#[derive(Clone, Copy, Debug, PartialEq)]
-pub struct Operand {
-    pub number: i64,
-    pub round: u8,
-    pub width: u32,
-    pub unit: i32,
-}
-
-/// What an operation is given. For a running sum `first` is the kept word and
-/// `depth` its depth; opening takes width and unit of `first` alone.
-#[derive(Clone, Copy, Debug)]
-pub struct Case {
-    pub first: Operand,
-    pub depth: u64,
-    pub second: Operand,
-}
-
-/// The fields of a word in an answer, of any kind.
-#[derive(Clone, Copy, Debug, PartialEq)]
-pub struct Fields {
-    pub number: i128,
-    pub round: i128,
-    pub width: i128,
-    pub unit: i128,
-}
-
-/// Everything an operation answers; `sum` is there for the running sum alone.
-#[derive(Clone, Copy, Debug, PartialEq)]
-pub struct Reply {
-    pub word: Fields,
-    pub sum: Option<(Fields, i128)>,
-    pub refusal: u32,
-}
-
-/// What a case must vary to reach all of an operation.
-#[derive(Clone, Copy, PartialEq)]
-pub struct Takes {
-    pub number: bool,
-    pub round: bool,
-    pub depth: bool,
-    pub second: bool,
-}
-
+/// An operation on words.
 pub struct Operation {
     pub name: &'static str,
+    pub refuses: &'static [u32],
     pub takes: Takes,
     pub library: fn(&Case) -> Reply,
     pub second: fn(&Case) -> Reply,
@@ -67,326 +25,196 @@ const fn takes(round: bool, depth: bool, second: bool) -> Takes {
     }
 }
 
-const WITH_ROUND: Takes = takes(true, false, false);
-const WITH_ROUND_AND_DEPTH: Takes = takes(true, true, false);
-const TWO_WITH_ROUND: Takes = takes(true, false, true);
-const NO_ROUND: Takes = takes(false, false, false);
-const NO_ROUND_AND_DEPTH: Takes = takes(false, true, false);
-const TWO_NO_ROUND: Takes = takes(false, false, true);
-const FORMAT_AND_DEPTH: Takes = Takes {
-    number: false,
-    round: false,
-    depth: true,
-    second: false,
-};
+const ROUND_BIT: Takes = ROUND_BIT_WORD;
+const ROUND_BIT_DEPTH: Takes = takes(true, true, false);
+const ROUND_BITS: Takes = takes(true, false, true);
+const OTHER: Takes = takes(false, false, false);
+const OTHER_DEPTH: Takes = takes(false, true, false);
+const OTHERS: Takes = takes(false, false, true);
 const SUM_AND_WORD: Takes = takes(true, true, true);
+const FORMAT_DEPTH: Takes = Takes {
+    number: false,
+    ..takes(false, true, false)
+};
 
-/// One row for an operation with the same name in both programs.
+/// Why a number can occur: a word as operand gives 1, 2, 3; a sum 4 and 8; a
+/// cut 5 and 7; a wider answer 6 and 7; a lent buffer 10. Widening and the
+/// products always fit, so they have no 8, and the cuts get no wider, so no 6.
+macro_rules! and_of_words {
+    ($($cause:ident),*) => {
+        &[WIDTH_OUTSIDE, UNIT_OUTSIDE, NUMBER_OUTSIDE $(, $cause)*]
+    };
+}
+
+const OF_WORDS: &[u32] = and_of_words![];
+const OF_SUM: &[u32] = and_of_words![OPERANDS_DIFFER, ANSWER_DOES_NOT_FIT];
+const OF_CUT: &[u32] = and_of_words![DEPTH_OUTSIDE, ANSWER_UNIT_OUTSIDE];
+const OF_WIDER: &[u32] = and_of_words![ANSWER_TOO_WIDE, ANSWER_UNIT_OUTSIDE];
+const OF_FIT: &[u32] = and_of_words![ANSWER_DOES_NOT_FIT];
+#[rustfmt::skip]
+const OF_PUT: &[u32] =
+    and_of_words![OPERANDS_DIFFER, DEPTH_OUTSIDE, ANSWER_UNIT_OUTSIDE, ANSWER_DOES_NOT_FIT];
+/// Opening takes a width, a unit and a depth, and no number: no 3.
+#[rustfmt::skip]
+const OF_OPENING: &[u32] =
+    &[WIDTH_OUTSIDE, UNIT_OUTSIDE, DEPTH_OUTSIDE, ANSWER_UNIT_OUTSIDE];
+const OF_TEXT: &[u32] = and_of_words![BUFFER_TOO_SHORT];
+/// A text has a width (its length) and a unit, but no number of its own.
+const OF_TEXT_READ: &[u32] = &[WIDTH_OUTSIDE, UNIT_OUTSIDE, TEXT_WRONG];
+#[rustfmt::skip]
+const OF_FILE_READ: &[u32] =
+    and_of_words![BUFFER_TOO_SHORT, MARK_OR_VERSION_WRONG, LENGTH_KIND_OR_COUNT_WRONG];
+/// A writer puts the mark and version itself: no 11.
+const OF_FILE: &[u32] = and_of_words![BUFFER_TOO_SHORT, LENGTH_KIND_OR_COUNT_WRONG];
+/// The line `refused N` within the text, 0 for a listing: never 10, since the
+/// listing lends its own buffers.
+#[rustfmt::skip]
+const OF_PRINTED: &[u32] = and_of_words![MARK_OR_VERSION_WRONG, LENGTH_KIND_OR_COUNT_WRONG];
+
+/// One row: what it takes, its function in each program, why it refuses.
 macro_rules! row {
-    ($takes:expr, $module:ident, $function:ident, $library:ident, word) => {
+    ($takes:ident, $library:ident, $second:path, $refuses:ident,
+     |$case:ident| ($($given:expr),*), ($($taken:expr),*)) => {
         Operation {
             name: stringify!($library),
+            refuses: $refuses,
             takes: $takes,
-            library: |c| unsafe { $library(c.first.into()) }.into(),
-            second: |c| $module::$function(c.first.into()).into(),
-        }
-    };
-    ($takes:expr, $module:ident, $function:ident, $library:ident, depth) => {
-        Operation {
-            name: stringify!($library),
-            takes: $takes,
-            library: |c| unsafe { $library(c.first.into(), c.depth) }.into(),
-            second: |c| $module::$function(c.first.into(), c.depth as i128).into(),
-        }
-    };
-    ($takes:expr, $module:ident, $function:ident, $library:ident, two) => {
-        Operation {
-            name: stringify!($library),
-            takes: $takes,
-            library: |c| unsafe { $library(c.first.into(), c.second.into()) }.into(),
-            second: |c| $module::$function(c.first.into(), c.second.into()).into(),
-        }
-    };
-    ($takes:expr, $module:ident, $function:ident, $library:ident, sum) => {
-        Operation {
-            name: stringify!($library),
-            takes: $takes,
-            library: |c| unsafe { $library(c.library_sum()) }.into(),
-            second: |c| $module::$function(c.second_sum()).into(),
+            library: |$case| unsafe { $library($($given),*) }.model().into(),
+            second: |$case| $second($($taken),*).into(),
         }
     };
 }
 
-pub const OPEN: usize = 20;
-pub const PUT: usize = 21;
-pub const HAND_OUT: usize = 22;
-pub const EMPTY: usize = 23;
+/// An operation on one word, or on one word and a depth, or on two words.
+macro_rules! one {
+    ($takes:ident, $library:ident, $second:path, $refuses:ident) => {
+        row!(
+            $takes,
+            $library,
+            $second,
+            $refuses,
+            |c| (c.first.for_library()),
+            (c.first.word())
+        )
+    };
+}
+macro_rules! deep {
+    ($takes:ident, $library:ident, $second:path, $refuses:ident) => {
+        row!(
+            $takes,
+            $library,
+            $second,
+            $refuses,
+            |c| (c.first.for_library(), c.depth),
+            (c.first.word(), c.depth as i128)
+        )
+    };
+}
+macro_rules! two {
+    ($takes:ident, $library:ident, $second:path, $refuses:ident) => {
+        row!(
+            $takes,
+            $library,
+            $second,
+            $refuses,
+            |c| (c.first.for_library(), c.second.for_library()),
+            (c.first.word(), c.second.word())
+        )
+    };
+}
 
-/// In the order of the tally's rows.
-pub static OPERATIONS: [Operation; 24] = [
-    row!(
-        WITH_ROUND,
-        round_bit,
-        sign_change,
-        frost_round_bit_sign_change,
-        word
-    ),
-    row!(
-        WITH_ROUND_AND_DEPTH,
-        round_bit,
-        cut,
-        frost_round_bit_cut,
-        depth
-    ),
-    row!(
-        WITH_ROUND_AND_DEPTH,
-        round_bit,
-        rest,
-        frost_round_bit_rest,
-        depth
-    ),
-    row!(
-        WITH_ROUND_AND_DEPTH,
-        round_bit,
-        even_cut,
-        frost_round_bit_even_cut,
-        depth
-    ),
-    row!(
-        WITH_ROUND_AND_DEPTH,
-        round_bit,
-        widen,
-        frost_round_bit_widen,
-        depth
-    ),
-    row!(TWO_WITH_ROUND, round_bit, sum, frost_round_bit_sum, two),
-    row!(
-        TWO_WITH_ROUND,
-        round_bit,
-        difference,
-        frost_round_bit_difference,
-        two
-    ),
-    row!(
-        TWO_WITH_ROUND,
-        round_bit,
-        product,
-        frost_round_bit_product,
-        two
-    ),
-    row!(
-        WITH_ROUND,
-        round_bit,
-        to_plain,
-        frost_round_bit_to_plain,
-        word
-    ),
-    row!(
-        NO_ROUND,
-        round_bit,
-        from_plain,
-        frost_round_bit_from_plain,
-        word
-    ),
-    row!(
-        NO_ROUND,
-        half_unit,
-        sign_change,
-        frost_half_unit_sign_change,
-        word
-    ),
-    row!(
-        NO_ROUND_AND_DEPTH,
-        half_unit,
-        cut,
-        frost_half_unit_cut,
-        depth
-    ),
-    row!(
-        NO_ROUND_AND_DEPTH,
-        half_unit,
-        from_plain_up,
-        frost_half_unit_from_plain_up,
-        depth
-    ),
-    row!(
-        NO_ROUND_AND_DEPTH,
-        half_unit,
-        from_plain_even,
-        frost_half_unit_from_plain_even,
-        depth
-    ),
-    row!(
-        NO_ROUND,
-        half_unit,
-        to_plain,
-        frost_half_unit_to_plain,
-        word
-    ),
-    row!(
-        NO_ROUND,
-        half_unit,
-        to_round_bit,
-        frost_half_unit_to_round_bit,
-        word
-    ),
-    row!(
-        WITH_ROUND,
-        half_unit,
-        from_round_bit,
-        frost_half_unit_from_round_bit,
-        word
-    ),
-    row!(TWO_NO_ROUND, half_unit, sum_up, frost_half_unit_sum_up, two),
-    row!(
-        TWO_NO_ROUND,
-        half_unit,
-        sum_even,
-        frost_half_unit_sum_even,
-        two
-    ),
-    row!(
-        TWO_NO_ROUND,
-        half_unit,
-        product,
-        frost_half_unit_product,
-        two
-    ),
-    Operation {
-        name: "frost_running_sum_open",
-        takes: FORMAT_AND_DEPTH,
-        library: |c| unsafe { frost_running_sum_open(c.first.width, c.first.unit, c.depth) }.into(),
-        second: |c| {
-            let (width, unit) = (c.first.width as i128, c.first.unit as i128);
-            running_sum::open(width, unit, c.depth as i128).into()
-        },
-    },
-    Operation {
-        name: "frost_running_sum_put",
-        takes: SUM_AND_WORD,
-        library: |c| unsafe { frost_running_sum_put(c.library_sum(), c.second.into()) }.into(),
-        second: |c| running_sum::put(c.second_sum(), c.second.into()).into(),
-    },
-    row!(
-        WITH_ROUND_AND_DEPTH,
-        running_sum,
-        hand_out,
-        frost_running_sum_hand_out,
-        sum
-    ),
-    row!(
-        WITH_ROUND_AND_DEPTH,
-        running_sum,
-        empty,
-        frost_running_sum_empty,
-        sum
-    ),
+#[rustfmt::skip] // one row, one line
+pub const OPERATIONS: &[Operation] = &[
+    one!(ROUND_BIT, frost_round_bit_sign_change, round_bit::sign_change, OF_WORDS),
+    deep!(ROUND_BIT_DEPTH, frost_round_bit_cut, round_bit::cut, OF_CUT),
+    deep!(ROUND_BIT_DEPTH, frost_round_bit_rest, round_bit::rest, OF_CUT),
+    deep!(ROUND_BIT_DEPTH, frost_round_bit_even_cut, round_bit::even_cut, OF_CUT),
+    deep!(ROUND_BIT_DEPTH, frost_round_bit_widen, round_bit::widen, OF_WIDER),
+    two!(ROUND_BITS, frost_round_bit_sum, round_bit::sum, OF_SUM),
+    two!(ROUND_BITS, frost_round_bit_difference, round_bit::difference, OF_SUM),
+    two!(ROUND_BITS, frost_round_bit_product, round_bit::product, OF_WIDER),
+    one!(ROUND_BIT, frost_round_bit_to_plain, round_bit::to_plain, OF_FIT),
+    one!(OTHER, frost_round_bit_from_plain, round_bit::from_plain, OF_WORDS),
+    one!(OTHER, frost_half_unit_sign_change, half_unit::sign_change, OF_WORDS),
+    deep!(OTHER_DEPTH, frost_half_unit_cut, half_unit::cut, OF_CUT),
+    deep!(OTHER_DEPTH, frost_half_unit_from_plain_up, half_unit::from_plain_up, OF_CUT),
+    deep!(OTHER_DEPTH, frost_half_unit_from_plain_even, half_unit::from_plain_even, OF_CUT),
+    one!(OTHER, frost_half_unit_to_plain, half_unit::to_plain, OF_WIDER),
+    one!(OTHER, frost_half_unit_to_round_bit, half_unit::to_round_bit, OF_WIDER),
+    one!(ROUND_BIT, frost_half_unit_from_round_bit, half_unit::from_round_bit, OF_WIDER),
+    two!(OTHERS, frost_half_unit_sum_up, half_unit::sum_up, OF_SUM),
+    two!(OTHERS, frost_half_unit_sum_even, half_unit::sum_even, OF_SUM),
+    two!(OTHERS, frost_half_unit_product, half_unit::product, OF_WIDER),
+    row!(FORMAT_DEPTH, frost_running_sum_open, running_sum::open, OF_OPENING,
+        |c| (c.first.width, c.first.unit, c.depth),
+        (c.first.width as i128, c.first.unit as i128, c.depth as i128)),
+    row!(SUM_AND_WORD, frost_running_sum_put, running_sum::put, OF_PUT,
+        |c| (OfModel::of(c.sum()), c.second.for_library()), (c.sum(), c.second.word())),
+    row!(ROUND_BIT_DEPTH, frost_running_sum_hand_out, running_sum::hand_out, OF_CUT,
+        |c| (OfModel::of(c.sum())), (c.sum())),
+    row!(ROUND_BIT_DEPTH, frost_running_sum_empty, running_sum::empty, OF_CUT,
+        |c| (OfModel::of(c.sum())), (c.sum())),
 ];
 
-/// Calls both programs on one case and compares all that they answer. The
-/// library's answer is given back, for checks that go from call to call.
-pub fn compare(row: usize, case: &Case, record: &mut Record) -> Reply {
-    let operation = &OPERATIONS[row];
-    fall::about_to_call(operation.name, Some(case), &[]);
-    let library = (operation.library)(case);
-    fall::back();
-    let second = (operation.second)(case);
-    record.answer(row, library.refusal);
-    record.check(library == second, || {
-        format!(
-            "{}\n  case:    {}\n  library: {:?}\n  second:  {:?}",
-            operation.name,
-            describe(operation.takes, case),
-            library,
-            second
-        )
+pub const OPEN: usize = row_of("frost_running_sum_open");
+pub const PUT: usize = row_of("frost_running_sum_put");
+pub const HAND_OUT: usize = row_of("frost_running_sum_hand_out");
+pub const EMPTY: usize = row_of("frost_running_sum_empty");
+
+/// The operations with lent buffers, which are called elsewhere, and what is
+/// printed; their rows stand after those of the words.
+#[rustfmt::skip]
+const BUFFERED: &[Row] = &[
+    Row { name: "frost_digit_text_write", refuses: OF_TEXT },
+    Row { name: "frost_digit_text_read", refuses: OF_TEXT_READ },
+    Row { name: "frost_file_read", refuses: OF_FILE_READ },
+    Row { name: "frost_file_write", refuses: OF_FILE },
+    Row { name: "frost_listing_text", refuses: &[BUFFER_TOO_SHORT] },
+    Row { name: "frost_listing_text, printed", refuses: OF_PRINTED },
+    Row { name: "listing program, printed", refuses: OF_PRINTED },
+];
+
+pub const TEXT_WRITE: usize = row_of("frost_digit_text_write");
+pub const TEXT_READ: usize = row_of("frost_digit_text_read");
+pub const FILE_READ: usize = row_of("frost_file_read");
+pub const FILE_WRITE: usize = row_of("frost_file_write");
+pub const LISTING_CALL: usize = row_of("frost_listing_text");
+pub const LISTING_PRINTED: usize = row_of("frost_listing_text, printed");
+pub const PROGRAM_PRINTED: usize = row_of("listing program, printed");
+
+/// The tally's rows.
+pub fn rows() -> Vec<Row> {
+    let words = OPERATIONS.iter().map(|operation| Row {
+        name: operation.name,
+        refuses: operation.refuses,
     });
-    library
+    words.chain(BUFFERED.iter().copied()).collect()
 }
 
-/// Every combination of the operands that the operation takes. The depths go
-/// with the width of the first operand.
-pub fn compare_all(
-    row: usize,
-    firsts: &[Operand],
-    depths: fn(u32) -> Vec<u64>,
-    seconds: &[Operand],
-    record: &mut Record,
-) {
-    let takes = OPERATIONS[row].takes;
-    let seconds = if takes.second {
-        seconds
-    } else {
-        &[Operand::BLANK]
-    };
-    for &first in firsts {
-        let depths = if takes.depth {
-            depths(first.width)
-        } else {
-            vec![0]
-        };
-        for depth in depths {
-            for &second in seconds {
-                compare(
-                    row,
-                    &Case {
-                        first,
-                        depth,
-                        second,
-                    },
-                    record,
-                );
-            }
+/// The first row of the tally with this name; a name that has none does not
+/// compile where a constant asks.
+pub const fn row_of(name: &str) -> usize {
+    let mut row = 0;
+    while row < OPERATIONS.len() {
+        if same(OPERATIONS[row].name, name) {
+            return row;
         }
+        row += 1;
     }
-}
-
-/// Only the operands that the operation takes.
-pub fn describe(takes: Takes, case: &Case) -> String {
-    let mut text = format!("first {:?}", case.first);
-    if takes.depth {
-        text += &format!(", depth {}", case.depth);
-    }
-    if takes.second {
-        text += &format!(", second {:?}", case.second);
-    }
-    text
-}
-
-pub fn row_of(name: &str) -> usize {
-    let found = OPERATIONS
-        .iter()
-        .position(|operation| operation.name == name);
-    found.expect("an operation of the table")
-}
-
-impl Operand {
-    pub const BLANK: Operand = Operand {
-        number: 0,
-        round: 0,
-        width: 2,
-        unit: 0,
-    };
-}
-
-impl Case {
-    pub fn of(first: Operand) -> Case {
-        Case {
-            first,
-            depth: 0,
-            second: Operand::BLANK,
+    while row < OPERATIONS.len() + BUFFERED.len() {
+        if same(BUFFERED[row - OPERATIONS.len()].name, name) {
+            return row;
         }
+        row += 1;
     }
-    fn library_sum(&self) -> FrostRunningSum {
-        FrostRunningSum {
-            kept: self.first.into(),
-            depth: self.depth,
-        }
+    panic!("an operation of the table")
+}
+
+const fn same(one: &str, other: &str) -> bool {
+    let (one, other) = (one.as_bytes(), other.as_bytes());
+    let mut place = 0;
+    while place < one.len() && place < other.len() && one[place] == other[place] {
+        place += 1;
     }
-    fn second_sum(&self) -> RunningSum {
-        RunningSum {
-            kept: self.first.into(),
-            depth: self.depth as i128,
-        }
-    }
+    place == one.len() && place == other.len()
 }

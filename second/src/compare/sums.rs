@@ -1,10 +1,17 @@
 //! Running sums over long random lists of calls. Each call is compared, and
 //! both totals of demand 3 are worked out from the calls and the answers.
 
+use super::call::compare;
+use super::case::{Case, Operand, Reply};
 use super::job::Job;
-use super::operations::{compare, Case, Fields, Operand, Reply, EMPTY, HAND_OUT, OPEN, PUT};
-use super::random::{self, Random};
+use super::limits::*;
+use super::operations::{EMPTY, HAND_OUT, OPEN, PUT};
+use super::random::Random;
+use super::random_cases;
 use super::tally::Record;
+use crate::model::causes::DONE;
+use crate::model::running_sum::RunningSum;
+use crate::model::words::{Fields, Word};
 
 const JOBS: u64 = 4;
 const LISTS: u64 = 500;
@@ -26,8 +33,7 @@ pub fn jobs(seed: u64) -> Vec<Job> {
 
 /// A sum as the library left it, and the two totals so far in its units.
 struct List {
-    kept: Operand,
-    depth: u64,
+    sum: RunningSum,
     accepted: i128,
     handed_out: i128,
     calls: u64,
@@ -53,38 +59,30 @@ fn call_list(random: &mut Random, record: &mut Record) {
 }
 
 fn open(random: &mut Random, record: &mut Record) -> Option<List> {
-    let width = 3 + random.below(61) as u32;
-    let depth = 1 + random.below(width as u64 - 2);
-    let highest = 127 - depth as i32;
-    let unit = -127 + random.below((highest + 128) as u64) as i32;
+    // A sum of the least width has no depth.
+    let width = LEAST_WIDTH + 1 + random.below(WIDTHS - 1) as u32;
+    let depth = 1 + random.below((width - LEAST_WIDTH) as u64);
+    let highest = MOST_UNIT - depth as i32;
+    let unit = LEAST_UNIT + random.below((highest - LEAST_UNIT + 1) as u64) as i32;
     let format = Operand {
         number: 0,
         round: 0,
         width,
         unit,
     };
-    let reply = compare(
-        OPEN,
-        &Case {
-            depth,
-            ..Case::of(format)
-        },
-        record,
-    );
-    record.check(reply.refusal == 0, || {
+    let reply = compare(OPEN, &Case::deep(format, depth), record);
+    record.check(reply.refusal == DONE, || {
         let case = format!("{:?}, depth {}", format, depth);
         format!(
             "a sum that must open\n  case:    {}\n  library: {:?}",
             case, reply
         )
     });
-    if reply.refusal != 0 {
+    if reply.refusal != DONE {
         return None;
     }
-    let (kept, depth) = sum_of(&reply);
     Some(List {
-        kept,
-        depth,
+        sum: sum_of(&reply),
         accepted: 0,
         handed_out: 0,
         calls: 0,
@@ -92,35 +90,23 @@ fn open(random: &mut Random, record: &mut Record) -> Option<List> {
 }
 
 /// The sum that a call left, as the next call takes it.
-fn sum_of(reply: &Reply) -> (Operand, u64) {
-    let (kept, depth) = reply.sum.expect("a running sum in the answer");
-    let kept = Operand {
-        number: kept.number as i64,
-        round: kept.round as u8,
-        width: kept.width as u32,
-        unit: kept.unit as i32,
-    };
-    (kept, depth as u64)
+fn sum_of(reply: &Reply) -> RunningSum {
+    reply.sum.expect("a running sum in the answer")
 }
 
 /// One call, on the sum that the call before left.
 fn call(row: usize, list: &mut List, word: Operand, record: &mut Record) -> Reply {
-    let case = Case {
-        first: list.kept,
-        depth: list.depth,
-        second: word,
-    };
-    let reply = compare(row, &case, record);
-    (list.kept, list.depth) = sum_of(&reply);
+    let reply = compare(row, &Case::on(list.sum, word), record);
+    list.sum = sum_of(&reply);
     list.calls += 1;
     reply
 }
 
 fn put(random: &mut Random, list: &mut List, record: &mut Record) {
-    let word = word_to_put(random, list.kept);
+    let word = word_to_put(random, kept(list));
     let reply = call(PUT, list, word, record);
-    if reply.refusal == 0 {
-        list.accepted += word.number as i128 + word.round as i128;
+    if reply.refusal == DONE {
+        list.accepted += value(word.fields());
     }
     totals(list, "put", record);
 }
@@ -129,7 +115,7 @@ fn put(random: &mut Random, list: &mut List, record: &mut Record) {
 /// word at all, which the sum mostly refuses.
 fn word_to_put(random: &mut Random, kept: Operand) -> Operand {
     if random.once_in(10) {
-        return random::word(random);
+        return random_cases::word(random);
     }
     let digits = 1 + random.below(kept.width as u64);
     let number = random.next() as i64 >> (64 - digits);
@@ -145,9 +131,9 @@ fn hand_out(list: &mut List, record: &mut Record) {
     count_word(list, &reply);
     totals(list, "hand out", record);
     // Half a coarse unit is 2^(d-1) of the sum's units.
-    let kept = value(list.kept);
+    let kept = value(list.sum.kept.fields());
     record.check(
-        reply.refusal != 0 || 2 * kept.abs() <= 1 << list.depth,
+        reply.refusal != DONE || 2 * kept.abs() <= 1 << list.sum.depth,
         || {
             format!(
                 "more than half a coarse unit kept\n  case:    {}",
@@ -162,7 +148,7 @@ fn empty(list: &mut List, record: &mut Record) {
     count_word(list, &reply);
     totals(list, "empty", record);
     record.check(
-        reply.refusal != 0 || list.accepted == list.handed_out,
+        reply.refusal != DONE || list.accepted == list.handed_out,
         || {
             format!(
                 "totals unequal after emptying\n  case:    {}",
@@ -174,25 +160,30 @@ fn empty(list: &mut List, record: &mut Record) {
 
 /// A word handed out counts in its own unit.
 fn count_word(list: &mut List, reply: &Reply) {
-    if reply.refusal == 0 {
-        list.handed_out += in_units_of(list.kept.unit, &reply.word);
+    if reply.refusal == DONE {
+        list.handed_out += in_units_of(list.sum.kept.unit, reply.word);
     }
 }
 
-fn in_units_of(unit: i32, word: &Fields) -> i128 {
+fn in_units_of(unit: i128, word: Fields) -> i128 {
     // A word in a finer unit than the sum's would be a fault; it is compared
     // elsewhere, and here it must only not stop the count.
-    let steps = (word.unit - unit as i128).clamp(0, 63);
-    (word.number + word.round) << steps
+    let steps = (word.unit - unit).clamp(0, MOST_WIDTH as i128);
+    value(word) << steps
 }
 
-fn value(word: Operand) -> i128 {
-    word.number as i128 + word.round as i128
+fn value(word: Fields) -> i128 {
+    word.number + word.round
+}
+
+fn kept(list: &List) -> Operand {
+    Operand::of(list.sum.kept.fields())
 }
 
 /// Words accepted are words handed out plus what is kept, after every call.
 fn totals(list: &List, call: &str, record: &mut Record) {
-    record.check(list.accepted == list.handed_out + value(list.kept), || {
+    let kept = value(list.sum.kept.fields());
+    record.check(list.accepted == list.handed_out + kept, || {
         format!(
             "the totals after a call to {}\n  case:    {}",
             call,
@@ -203,24 +194,21 @@ fn totals(list: &List, call: &str, record: &mut Record) {
 
 fn list_text(list: &List) -> String {
     format!(
-        "after {} calls kept {:?}, depth {}, accepted {}, handed out {}",
-        list.calls, list.kept, list.depth, list.accepted, list.handed_out
+        "after {} calls {:?}, accepted {}, handed out {}",
+        list.calls, list.sum, list.accepted, list.handed_out
     )
 }
 
 /// Calls on a sum that no call left: they stand outside the list, and are
 /// compared like any other.
 fn spoiled(random: &mut Random, list: &List, record: &mut Record) {
-    let mut case = Case {
-        first: list.kept,
-        depth: list.depth,
-        second: list.kept,
-    };
+    let mut case = Case::on(list.sum, kept(list));
+    let most = MOST_WIDTH as u64;
     match random.below(5) {
-        0 => case.depth = random.one_of(&[0, 62, 63, 64, u64::MAX]),
+        0 => case.depth = random.one_of(&[0, most - 1, most, most + 1, u64::MAX]),
         1 => case.first.round = random.one_of(&[2, 255]),
-        2 => case.first.width = random.one_of(&[0, 1, 2, 64]),
-        3 => case.first.unit = random.one_of(&[-128, 127, 128]),
+        2 => case.first.width = random.one_of(&[0, 1, LEAST_WIDTH, MOST_WIDTH + 1]),
+        3 => case.first.unit = random.one_of(&[LEAST_UNIT - 1, MOST_UNIT, MOST_UNIT + 1]),
         _ => case.first.number = random.next() as i64,
     }
     compare(random.one_of(&[PUT, HAND_OUT, EMPTY]), &case, record);

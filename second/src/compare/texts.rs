@@ -1,19 +1,14 @@
 //! The two operations of the digit text, called in both programs on one case.
 
+use super::case::{Case, Operand, Reply};
 use super::fall;
 use super::lent::Lent;
 use super::library::*;
-use super::operations::{Case, Operand, Reply};
-use super::tally::{Record, TEXT_READ, TEXT_WRITE};
+use super::operations::{TEXT_READ, TEXT_WRITE};
+use super::tally::Record;
+use crate::model::causes::DONE;
 use crate::model::digit_text;
-use crate::model::words::{RoundBit, Written, DONE};
-
-pub fn written(answer: FrostWritten) -> Written {
-    Written {
-        bytes: answer.bytes as i128,
-        refusal: answer.refusal,
-    }
-}
+use crate::model::words::RoundBit;
 
 /// Writes a word's text into a buffer of the room given; gives back what the
 /// library left in the buffer.
@@ -21,15 +16,13 @@ pub fn compare_write(word: Operand, room: usize, record: &mut Record) -> Vec<u8>
     let salt = record.cases;
     let mut library_text = Lent::bytes(room, salt);
     let mut second_text = Lent::bytes(room, salt);
-    let case = Case {
-        depth: room as u64,
-        ..Case::of(word)
-    };
+    let case = Case::deep(word, room as u64);
     fall::about_to_call("frost_digit_text_write", Some(&case), &[]);
-    let answer = unsafe { frost_digit_text_write(word.into(), library_text.pointer(), room) };
+    let answer =
+        unsafe { frost_digit_text_write(word.for_library(), library_text.pointer(), room) };
     fall::back();
-    let library = written(answer);
-    let second = digit_text::write(word.into(), second_text.lend());
+    let library = answer.model();
+    let second = digit_text::write(word.word(), second_text.lend());
     record.answer(TEXT_WRITE, library.refusal);
     let agrees = library == second && library_text == second_text;
     record.check(agrees, || {
@@ -51,7 +44,7 @@ pub fn compare_read(text: &[u8], unit: i32, record: &mut Record) -> Reply {
     fall::about_to_call("frost_digit_text_read", None, text);
     let answer = unsafe { frost_digit_text_read(lent.pointer(), text.len(), unit) };
     fall::back();
-    let library: Reply = answer.into();
+    let library: Reply = answer.model().into();
     let answer = digit_text::read(text, unit as i128);
     let is_its_text = answer.refusal != DONE || is_text_of(text, answer.word);
     let second: Reply = answer.into();

@@ -1,6 +1,8 @@
 //! Document 01, section "Round-bit words", its last item: the digit text.
 //! Written from document 01 alone; it shares nothing with crates/.
 
+use super::causes::*;
+use super::digits::digit;
 use super::words::*;
 
 pub fn write(word: RoundBit, text: &mut [u8]) -> Written {
@@ -39,8 +41,7 @@ fn letter(digit: i128) -> u8 {
 pub fn read(text: &[u8], unit: i128) -> Answer<RoundBit> {
     let width = text.len() as i128;
     let refusal = first_of(&[
-        refuse_if(!width_is_good(width), WIDTH_OUTSIDE),
-        refuse_if(!unit_is_good(unit), UNIT_OUTSIDE),
+        causes_of_operand(width, unit),
         refuse_if(!is_a_text(text), TEXT_WRONG),
     ]);
     if refusal != DONE {

@@ -1,6 +1,9 @@
 //! Document 01, section "Half-unit words".
 //! Written from document 01 alone; it shares nothing with crates/.
 
+use super::causes::*;
+use super::digits::*;
+use super::kinds::HALF_UNIT;
 use super::round_bit::with_round_bit_0;
 use super::words::*;
 
@@ -107,7 +110,7 @@ fn sum(first: HalfUnit, second: HalfUnit, number: i128) -> Answer<HalfUnit> {
     if refusal != DONE {
         return Answer::refused(refusal);
     }
-    if !fits(number, first.width) {
+    if !HALF_UNIT.fits(number, first.width) {
         return Answer::refused(ANSWER_DOES_NOT_FIT);
     }
     Answer::done(HalfUnit { number, ..first })

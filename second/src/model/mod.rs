@@ -3,8 +3,12 @@
 //! nothing of the comparison.
 
 pub mod block_file;
+pub mod causes;
 pub mod digit_text;
+pub mod digits;
 pub mod half_unit;
+pub mod kinds;
+pub mod layout;
 pub mod listing;
 pub mod round_bit;
 pub mod running_sum;

@@ -1,6 +1,9 @@
 //! Document 01, section "Round-bit words" (all of it but the digit text).
 //! Written from document 01 alone; it shares nothing with crates/.
 
+use super::causes::*;
+use super::digits::*;
+use super::kinds::{PLAIN, ROUND_BIT};
 use super::words::*;
 
 pub fn sign_change(word: RoundBit) -> Answer<RoundBit> {
@@ -103,7 +106,7 @@ pub fn sum(first: RoundBit, second: RoundBit) -> Answer<RoundBit> {
     let either = first.round + second.round - both;
     let number = first.number + second.number + both;
     // The number is tested, not the value: see P4.
-    if !fits(number, first.width) {
+    if !ROUND_BIT.fits(number, first.width) {
         return Answer::refused(ANSWER_DOES_NOT_FIT);
     }
     Answer::done(RoundBit {
@@ -156,7 +159,7 @@ pub fn to_plain(word: RoundBit) -> Answer<Plain> {
         return Answer::refused(refusal);
     }
     let number = word.number + word.round;
-    if !fits(number, word.width) {
+    if !PLAIN.fits(number, word.width) {
         return Answer::refused(ANSWER_DOES_NOT_FIT);
     }
     Answer::done(Plain {

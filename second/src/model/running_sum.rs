@@ -1,6 +1,7 @@
 //! Document 01, section "The running sum".
 //! Written from document 01 alone; it shares nothing with crates/.
 
+use super::causes::*;
 use super::round_bit::{cause_of_difference, cut, rest, sum};
 use super::words::*;
 
@@ -8,6 +9,36 @@ use super::words::*;
 pub struct RunningSum {
     pub kept: RoundBit,
     pub depth: i128,
+}
+
+impl RunningSum {
+    /// Every running sum is made here.
+    pub fn made(kept: RoundBit, depth: i128) -> RunningSum {
+        RunningSum { kept, depth }
+    }
+
+    /// The same sum with another word kept.
+    fn keeping(self, kept: RoundBit) -> RunningSum {
+        RunningSum { kept, ..self }
+    }
+
+    /// 1, 2 and 3 of the kept word.
+    fn causes_of_word(&self) -> u32 {
+        self.kept.causes()
+    }
+
+    /// Of the others: 5 and 7, those of the depth.
+    fn causes_of_depth(&self) -> u32 {
+        let outside = self.depth < 1 || self.depth > self.kept.width - LEAST_WIDTH;
+        first_of(&[
+            refuse_if(outside, DEPTH_OUTSIDE),
+            refuse_if(self.kept.unit + self.depth > MOST_UNIT, ANSWER_UNIT_OUTSIDE),
+        ])
+    }
+
+    fn causes(&self) -> u32 {
+        first_of(&[self.causes_of_word(), self.causes_of_depth()])
+    }
 }
 
 /// The sum as the call leaves it, the word handed back, the refusal number.
@@ -19,9 +50,9 @@ pub struct SumAnswer {
     pub refusal: u32,
 }
 
-fn done(kept: RoundBit, depth: i128, word: RoundBit) -> SumAnswer {
+fn done(sum: RunningSum, word: RoundBit) -> SumAnswer {
     SumAnswer {
-        sum: RunningSum { kept, depth },
+        sum,
         word,
         refusal: DONE,
     }
@@ -31,36 +62,26 @@ fn done(kept: RoundBit, depth: i128, word: RoundBit) -> SumAnswer {
 fn refused(sum: RunningSum, refusal: u32) -> SumAnswer {
     SumAnswer {
         sum,
-        word: RoundBit::BLANK,
+        word: RoundBit::blank(),
         refusal,
     }
 }
 
-/// Causes 5 and 7, those of the depth.
-fn causes_of_depth(kept: RoundBit, depth: i128) -> u32 {
-    let outside = depth < 1 || depth > kept.width - 2;
-    first_of(&[
-        refuse_if(outside, DEPTH_OUTSIDE),
-        refuse_if(kept.unit + depth > 127, ANSWER_UNIT_OUTSIDE),
-    ])
-}
-
-pub fn open(width: i128, unit: i128, depth: i128) -> SumAnswer {
-    let kept = RoundBit {
+/// The word (0,0) of a format.
+fn nothing(width: i128, unit: i128) -> RoundBit {
+    RoundBit {
         number: 0,
         round: 0,
         width,
         unit,
-    };
-    match first_of(&[kept.causes(), causes_of_depth(kept, depth)]) {
-        DONE => done(kept, depth, RoundBit::BLANK),
-        refusal => {
-            let blank = RunningSum {
-                kept: RoundBit::BLANK,
-                depth: 0,
-            };
-            refused(blank, refusal)
-        }
+    }
+}
+
+pub fn open(width: i128, unit: i128, depth: i128) -> SumAnswer {
+    let running = RunningSum::made(nothing(width, unit), depth);
+    match running.causes() {
+        DONE => done(running, RoundBit::blank()),
+        refusal => refused(RunningSum::made(RoundBit::blank(), 0), refusal),
     }
 }
 
@@ -68,45 +89,36 @@ pub fn put(running: RunningSum, word: RoundBit) -> SumAnswer {
     // The sum is the first operand, the word the second; of the other causes
     // the lowest number goes first: 4, 5, 7 and at last 8.
     let refusal = first_of(&[
-        running.kept.causes(),
+        running.causes_of_word(),
         word.causes(),
         cause_of_difference(running.kept, word),
-        causes_of_depth(running.kept, running.depth),
+        running.causes_of_depth(),
     ]);
     if refusal != DONE {
         return refused(running, refusal);
     }
     let answer = sum(running.kept, word);
     match answer.refusal {
-        DONE => done(answer.word, running.depth, RoundBit::BLANK),
+        DONE => done(running.keeping(answer.word), RoundBit::blank()),
         refusal => refused(running, refusal),
     }
 }
 
-fn causes_of_sum(running: RunningSum) -> u32 {
-    let depth = causes_of_depth(running.kept, running.depth);
-    first_of(&[running.kept.causes(), depth])
-}
-
 pub fn hand_out(running: RunningSum) -> SumAnswer {
-    let refusal = causes_of_sum(running);
+    let refusal = running.causes();
     if refusal != DONE {
         return refused(running, refusal);
     }
     let word = cut(running.kept, running.depth).word;
     let kept = rest(running.kept, running.depth).word;
-    done(kept, running.depth, word)
+    done(running.keeping(kept), word)
 }
 
 pub fn empty(running: RunningSum) -> SumAnswer {
-    let refusal = causes_of_sum(running);
+    let refusal = running.causes();
     if refusal != DONE {
         return refused(running, refusal);
     }
-    let kept = RoundBit {
-        number: 0,
-        round: 0,
-        ..running.kept
-    };
-    done(kept, running.depth, running.kept)
+    let kept = nothing(running.kept.width, running.kept.unit);
+    done(running.keeping(kept), running.kept)
 }

@@ -1,31 +1,91 @@
-//! Document 01, sections "The words" and "Refusal numbers": the three kinds
-//! of word, their formats, causes 1 to 3, and the blank word.
+//! Document 01, sections "The words" and "Refusal numbers": the words, their
+//! formats, causes 1 to 3, the blank word, and what is answered.
 //! Written from document 01 alone; it shares nothing with crates/.
-//! Every whole number is an i128, so nothing here can overflow.
 
-pub const DONE: u32 = 0;
-pub const WIDTH_OUTSIDE: u32 = 1;
-pub const UNIT_OUTSIDE: u32 = 2;
-pub const NUMBER_OUTSIDE: u32 = 3;
-pub const OPERANDS_DIFFER: u32 = 4;
-pub const DEPTH_OUTSIDE: u32 = 5;
-pub const ANSWER_TOO_WIDE: u32 = 6;
-pub const ANSWER_UNIT_OUTSIDE: u32 = 7;
-pub const ANSWER_DOES_NOT_FIT: u32 = 8;
-pub const TEXT_WRONG: u32 = 9;
-pub const BUFFER_TOO_SHORT: u32 = 10;
-pub const MARK_OR_VERSION_WRONG: u32 = 11;
-pub const LENGTH_KIND_OR_COUNT_WRONG: u32 = 12;
+use super::causes::*;
+use super::kinds::{Kind, HALF_UNIT, PLAIN, ROUND_BIT};
 
-/// Value: number units.
+/// The least width, and so the fewest digits that a cut may leave.
+pub const LEAST_WIDTH: i128 = 2;
+pub const MOST_WIDTH: i128 = 63;
+pub const MOST_UNIT: i128 = 127;
+pub const LEAST_UNIT: i128 = -MOST_UNIT;
+
+/// The fields of a word of any kind; kinds without a round bit have 0 there.
 #[derive(Clone, Copy, Debug, PartialEq, Eq)]
-pub struct Plain {
+pub struct Fields {
     pub number: i128,
+    pub round: i128,
     pub width: i128,
     pub unit: i128,
 }
 
-/// Value: number + round units.
+/// The blank word, of each kind.
+pub const BLANK: Fields = Fields {
+    number: 0,
+    round: 0,
+    width: 2,
+    unit: 0,
+};
+
+pub trait Word: Copy {
+    const KIND: Kind;
+    fn made(fields: Fields) -> Self;
+    fn fields(&self) -> Fields;
+
+    fn blank() -> Self {
+        Self::made(BLANK)
+    }
+
+    /// Causes 1, 2 and 3 in this order; 0 if the word has none of them.
+    fn causes(&self) -> u32 {
+        let fields = self.fields();
+        let format = causes_of_operand(fields.width, fields.unit);
+        if format != DONE {
+            return format;
+        }
+        let good = Self::KIND.allows(fields.number, fields.round, fields.width);
+        refuse_if(!good, NUMBER_OUTSIDE)
+    }
+}
+
+/// The plain and the half-unit words have the same fields, yet each is a type
+/// of its own: one kind must never be taken for another.
+macro_rules! word_without_round_bit {
+    ($word:ident, $kind:ident) => {
+        #[derive(Clone, Copy, Debug, PartialEq, Eq)]
+        pub struct $word {
+            pub number: i128,
+            pub width: i128,
+            pub unit: i128,
+        }
+
+        impl Word for $word {
+            const KIND: Kind = $kind;
+
+            fn made(fields: Fields) -> $word {
+                $word {
+                    number: fields.number,
+                    width: fields.width,
+                    unit: fields.unit,
+                }
+            }
+
+            fn fields(&self) -> Fields {
+                Fields {
+                    number: self.number,
+                    round: 0,
+                    width: self.width,
+                    unit: self.unit,
+                }
+            }
+        }
+    };
+}
+
+word_without_round_bit!(Plain, PLAIN);
+word_without_round_bit!(HalfUnit, HALF_UNIT);
+
 #[derive(Clone, Copy, Debug, PartialEq, Eq)]
 pub struct RoundBit {
     pub number: i128,
@@ -34,12 +94,26 @@ pub struct RoundBit {
     pub unit: i128,
 }
 
-/// Value: number + 1/2 units.
-#[derive(Clone, Copy, Debug, PartialEq, Eq)]
-pub struct HalfUnit {
-    pub number: i128,
-    pub width: i128,
-    pub unit: i128,
+impl Word for RoundBit {
+    const KIND: Kind = ROUND_BIT;
+
+    fn made(fields: Fields) -> RoundBit {
+        RoundBit {
+            number: fields.number,
+            round: fields.round,
+            width: fields.width,
+            unit: fields.unit,
+        }
+    }
+
+    fn fields(&self) -> Fields {
+        Fields {
+            number: self.number,
+            round: self.round,
+            width: self.width,
+            unit: self.unit,
+        }
+    }
 }
 
 /// What an operation answers: a word, and the refusal number (0 is done).
@@ -47,54 +121,6 @@ pub struct HalfUnit {
 pub struct Answer<W> {
     pub word: W,
     pub refusal: u32,
-}
-
-/// What writing into a lent buffer answers.
-#[derive(Clone, Copy, Debug, PartialEq, Eq)]
-pub struct Written {
-    pub bytes: i128,
-    pub refusal: u32,
-}
-
-pub trait Word {
-    /// The blank word: number 0, round bit 0, width 2, unit 0.
-    const BLANK: Self;
-    /// Causes 1, 2 and 3 in this order; 0 if the word has none of them.
-    fn causes(&self) -> u32;
-}
-
-impl Word for Plain {
-    const BLANK: Plain = Plain {
-        number: 0,
-        width: 2,
-        unit: 0,
-    };
-    fn causes(&self) -> u32 {
-        causes(self.number, 0, self.width, self.unit)
-    }
-}
-
-impl Word for RoundBit {
-    const BLANK: RoundBit = RoundBit {
-        number: 0,
-        round: 0,
-        width: 2,
-        unit: 0,
-    };
-    fn causes(&self) -> u32 {
-        causes(self.number, self.round, self.width, self.unit)
-    }
-}
-
-impl Word for HalfUnit {
-    const BLANK: HalfUnit = HalfUnit {
-        number: 0,
-        width: 2,
-        unit: 0,
-    };
-    fn causes(&self) -> u32 {
-        causes(self.number, 0, self.width, self.unit)
-    }
 }
 
 impl<W: Word> Answer<W> {
@@ -106,10 +132,17 @@ impl<W: Word> Answer<W> {
     }
     pub fn refused(refusal: u32) -> Answer<W> {
         Answer {
-            word: W::BLANK,
+            word: W::blank(),
             refusal,
         }
     }
+}
+
+/// What writing into a lent buffer answers.
+#[derive(Clone, Copy, Debug, PartialEq, Eq)]
+pub struct Written {
+    pub bytes: i128,
+    pub refusal: u32,
 }
 
 impl Written {
@@ -124,86 +157,23 @@ impl Written {
     }
 }
 
-fn causes(number: i128, round: i128, width: i128, unit: i128) -> u32 {
-    if !width_is_good(width) {
-        return WIDTH_OUTSIDE;
-    }
-    if !unit_is_good(unit) {
-        return UNIT_OUTSIDE;
-    }
-    if !fits(number, width) || !(round == 0 || round == 1) {
-        return NUMBER_OUTSIDE;
-    }
-    DONE
-}
-
-pub fn width_is_good(width: i128) -> bool {
-    2 <= width && width <= 63
-}
-
 pub fn unit_is_good(unit: i128) -> bool {
-    -127 <= unit && unit <= 127
+    LEAST_UNIT <= unit && unit <= MOST_UNIT
 }
 
-/// Only asked of a width from 1 to 63: other widths have no range of numbers.
-pub fn fits(number: i128, width: i128) -> bool {
-    -power(width - 1) <= number && number <= power(width - 1) - 1
-}
-
-/// The refusal if the condition holds, else 0: lets an operation list its
-/// causes in the order the document gives them.
-pub fn refuse_if(condition: bool, refusal: u32) -> u32 {
-    if condition {
-        refusal
-    } else {
-        DONE
-    }
-}
-
-/// The first cause in a list that stands in the document's order.
-pub fn first_of(causes: &[u32]) -> u32 {
-    for &cause in causes {
-        if cause != DONE {
-            return cause;
-        }
-    }
-    DONE
-}
-
-/// 2^d.
-pub fn power(d: i128) -> i128 {
-    1 << d
-}
-
-/// floor(number / 2^d): toward minus infinity, never toward zero.
-pub fn floor(number: i128, d: i128) -> i128 {
-    number.div_euclid(power(d))
-}
-
-/// Digit i of the number in two's complement, 0 or 1.
-pub fn digit(number: i128, i: i128) -> i128 {
-    floor(number, i).rem_euclid(2)
-}
-
-/// The low d digits, d >= 1, read as two's complement.
-pub fn low_digits(number: i128, d: i128) -> i128 {
-    let unsigned = number.rem_euclid(power(d));
-    if digit(number, d - 1) == 1 {
-        unsigned - power(d)
-    } else {
-        unsigned
-    }
-}
-
-/// The number with its lowest digit made 0.
-pub fn clear_lowest_digit(number: i128) -> i128 {
-    number - digit(number, 0)
+/// Causes 1 and 2 of what has a width and a unit.
+pub fn causes_of_operand(width: i128, unit: i128) -> u32 {
+    let width_is_good = LEAST_WIDTH <= width && width <= MOST_WIDTH;
+    first_of(&[
+        refuse_if(!width_is_good, WIDTH_OUTSIDE),
+        refuse_if(!unit_is_good(unit), UNIT_OUTSIDE),
+    ])
 }
 
 /// Causes 5 and 7 of a cut by d, or of a conversion with depth d.
 pub fn causes_of_cut(width: i128, unit: i128, d: i128) -> u32 {
     first_of(&[
-        refuse_if(width - d < 2, DEPTH_OUTSIDE),
+        refuse_if(width - d < LEAST_WIDTH, DEPTH_OUTSIDE),
         refuse_if(!unit_is_good(unit + d), ANSWER_UNIT_OUTSIDE),
     ])
 }
@@ -211,7 +181,7 @@ pub fn causes_of_cut(width: i128, unit: i128, d: i128) -> u32 {
 /// Causes 6 and 7 of an answer that may be wider than its operands.
 pub fn causes_of_format(width: i128, unit: i128) -> u32 {
     first_of(&[
-        refuse_if(width > 63, ANSWER_TOO_WIDE),
+        refuse_if(width > MOST_WIDTH, ANSWER_TOO_WIDE),
         refuse_if(!unit_is_good(unit), ANSWER_UNIT_OUTSIDE),
     ])
 }

@@ -1,0 +1,38 @@
+//! The limits that the model has from document 01, in the types that the cases
+//! have; cases at an edge are told from here.
+
+use crate::model::kinds::{kind_of, Kind, KINDS};
+use crate::model::layout::{Layout, VERSION_1};
+use crate::model::words;
+
+pub const LEAST_WIDTH: u32 = words::LEAST_WIDTH as u32;
+pub const MOST_WIDTH: u32 = words::MOST_WIDTH as u32;
+pub const LEAST_UNIT: i32 = words::LEAST_UNIT as i32;
+pub const MOST_UNIT: i32 = words::MOST_UNIT as i32;
+
+/// How many widths and units there are.
+pub const WIDTHS: u64 = (MOST_WIDTH - LEAST_WIDTH + 1) as u64;
+pub const UNITS: u64 = (MOST_UNIT - LEAST_UNIT + 1) as u64;
+
+/// Two words of this width have the widest round-bit product.
+pub const HALF_WIDTH: u32 = (MOST_WIDTH + 1) / 2;
+
+/// Two words of this unit pass the ends by one.
+pub const HALF_UNIT: i32 = (MOST_UNIT + 1) / 2;
+
+/// The files that are compared: the library's calls name no version.
+pub const LAYOUT: Layout = VERSION_1;
+pub const LEAST_FILE_WIDTH: u8 = LAYOUT.least_width as u8;
+pub const MOST_FILE_WIDTH: u8 = LAYOUT.most_width as u8;
+pub const FILE_WIDTHS: u64 = (MOST_FILE_WIDTH - LEAST_FILE_WIDTH + 1) as u64;
+pub const MOST_RECORDS: usize = LAYOUT.most_records;
+pub const LONGEST_FILE: usize = LAYOUT.longest_file;
+
+/// The byte after the last kind's, which is no kind's.
+pub const NO_KIND: u8 = KINDS.len() as u8;
+pub const LAST_KIND: u8 = NO_KIND - 1;
+
+/// The row of a kind that a case has chosen.
+pub fn row_of_kind(byte: u8) -> Kind {
+    kind_of(byte as i128).expect("a kind of the table")
+}
