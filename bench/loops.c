@@ -1,5 +1,6 @@
 /* Every measured loop, written once and compiled once for each peer: WHO answers the calls, NAME is what the peer is
  * called here, and with INLINED the C peer's text stands in the loop's own file. */
+#include "sums.h"
 #include "work.h"
 
 #ifdef INLINED
@@ -48,7 +49,7 @@ static void put_hand_out(const struct work *w, struct answers *a)
 static void each_sum(const struct work *w, struct answers *a)
 {
     for (int i = 0; i < w->words; i++) {
-        frost_running_sum s = {w->first[i], w->depths[i]};
+        frost_running_sum s = made_sum(w->first[i], w->depths[i]);
         frost_sum_answer in = CALL(running_sum_put)(s, w->second[i]);
         frost_sum_answer out = CALL(running_sum_hand_out)(s);
         a->words[i].word = out.word;

@@ -3,13 +3,14 @@
  *   measure check       holds the answers of every peer to the library's and prints `ROW PEER PIECES` for each
  *   measure times       prints `ROW PEER PIECES NANOSECONDS` for each, the best of several turns
  *   measure ROW PEER N  runs one loop N times, for a counter of instructions
- *   measure file        writes the file of 8,000 records, for the listing programs
+ *   measure file        writes the file of the most records, for the listing programs
  */
 #include <stdio.h>
 #include <stdlib.h>
 #include <string.h>
 #include <time.h>
 
+#include "sums.h"
 #include "work.h"
 
 enum { TURNS = 61, ODD_WORKS = 1000 };
@@ -49,7 +50,6 @@ enum { PEERS = sizeof peers / sizeof *peers };
 /* A repetition goes through all works of a row, and so through as many words or records in every row. Short files are
  * several works, not one time and again, which a processor learns by heart. Repetitions: enough for the clock. */
 enum { PIECES = MOST_RECORDS, MOST_WORKS = 8 };
-_Static_assert(MOST_WORDS == MOST_RECORDS, "as many words in one work as records");
 static const struct row {
     const char *name;
     int loop, works, repetitions;
@@ -71,16 +71,11 @@ enum { ROWS = sizeof rows / sizeof *rows };
 static struct work works[MOST_WORKS];
 static struct answers answers[2];
 
-static int same_word(frost_round_bit x, frost_round_bit y)
-{
-    return x.number == y.number && x.round == y.round && x.width == y.width && x.unit == y.unit;
-}
-
 static int same(const struct work *w, const struct answers *x, const struct answers *y)
 {
     for (int i = 0; i < w->words; i++)
         if (!same_word(x->words[i].word, y->words[i].word) || x->words[i].refusal != y->words[i].refusal ||
-            !same_word(x->sums[i].kept, y->sums[i].kept) || x->sums[i].depth != y->sums[i].depth)
+            !same_sum(x->sums[i], y->sums[i]))
             return 0;
     return memcmp(&x->head, &y->head, sizeof x->head) == 0 &&
            memcmp(x->numbers, y->numbers, sizeof x->numbers) == 0 &&
@@ -103,9 +98,9 @@ static int near(const struct work *w, const struct answers *x, const struct answ
 static int refused(const struct work *w, const struct answers *a)
 {
     for (int i = 0; i < w->words; i++)
-        if (a->words[i].refusal != 0)
+        if (a->words[i].refusal != DONE)
             return 1;
-    return a->head.refusal != 0 || a->written.refusal != 0;
+    return a->head.refusal != DONE || a->written.refusal != DONE;
 }
 
 static void fail(const char *peer, const char *what)

@@ -1,18 +1,19 @@
 /* The C peer's words and running sum. */
 #include "peer.h"
+#include "sums.h"
 
-static const frost_round_bit BLANK = {0, 2, 0, 0};
+static const frost_round_bit BLANK = {0, BLANK_WIDTH, 0, 0};
 
 /* 1, 2 and 3 of a word; 0 where it has none of them. */
 static inline uint32_t word_cause(frost_round_bit w)
 {
-    if (w.width < 2 || 63 < w.width)
-        return 1;
-    if (w.unit < -127 || 127 < w.unit)
-        return 2;
+    if (w.width < LEAST_WIDTH || MOST_WIDTH < w.width)
+        return WIDTH_OUTSIDE;
+    if (!good_unit(w.unit))
+        return UNIT_OUTSIDE;
     if (!fits(w.number, w.width) || 1 < w.round)
-        return 3;
-    return 0;
+        return NUMBER_OUTSIDE;
+    return DONE;
 }
 
 static inline frost_round_bit_answer refused(uint32_t cause)
@@ -36,26 +37,26 @@ static inline int differ(frost_round_bit x, frost_round_bit y)
 PEER frost_round_bit_answer peer_round_bit_sum(frost_round_bit x, frost_round_bit y)
 {
     uint32_t cause = word_cause(x);
-    if (cause == 0)
+    if (cause == DONE)
         cause = word_cause(y);
-    if (cause == 0 && differ(x, y))
-        cause = 4;
-    if (cause != 0)
+    if (cause == DONE && differ(x, y))
+        cause = OPERANDS_DIFFER;
+    if (cause != DONE)
         return refused(cause);
     frost_round_bit sum = added(x, y);
     if (!fits(sum.number, sum.width))
-        return refused(8);
-    return (frost_round_bit_answer){sum, 0};
+        return refused(ANSWER_DOES_NOT_FIT);
+    return (frost_round_bit_answer){sum, DONE};
 }
 
 /* 5 and 7 of a good word's cut. */
 static inline uint32_t cut_cause(frost_round_bit w, uint64_t depth)
 {
-    if (w.width - 2 < depth)
-        return 5;
-    if (127 < w.unit + (int64_t)depth)
-        return 7;
-    return 0;
+    if (w.width - LEAST_WIDTH < depth)
+        return DEPTH_OUTSIDE;
+    if (MOST_UNIT < w.unit + (int64_t)depth)
+        return ANSWER_UNIT_OUTSIDE;
+    return DONE;
 }
 
 static inline frost_round_bit cut(frost_round_bit w, uint64_t depth)
@@ -69,11 +70,11 @@ static inline frost_round_bit cut(frost_round_bit w, uint64_t depth)
 PEER frost_round_bit_answer peer_round_bit_cut(frost_round_bit w, uint64_t depth)
 {
     uint32_t cause = word_cause(w);
-    if (cause == 0)
+    if (cause == DONE)
         cause = cut_cause(w, depth);
-    if (cause != 0)
+    if (cause != DONE)
         return refused(cause);
-    return (frost_round_bit_answer){cut(w, depth), 0};
+    return (frost_round_bit_answer){cut(w, depth), DONE};
 }
 
 static inline frost_round_bit sign_changed(frost_round_bit w)
@@ -86,16 +87,16 @@ static inline frost_round_bit sign_changed(frost_round_bit w)
 PEER frost_round_bit_answer peer_round_bit_product(frost_round_bit x, frost_round_bit y)
 {
     uint32_t cause = word_cause(x);
-    if (cause == 0)
+    if (cause == DONE)
         cause = word_cause(y);
-    if (cause != 0)
+    if (cause != DONE)
         return refused(cause);
     uint32_t width = x.width + y.width - 1;
     int32_t unit = x.unit + y.unit;
-    if (63 < width)
-        return refused(6);
-    if (unit < -127 || 127 < unit)
-        return refused(7);
+    if (MOST_WIDTH < width)
+        return refused(ANSWER_TOO_WIDE);
+    if (!good_unit(unit))
+        return refused(ANSWER_UNIT_OUTSIDE);
     int exactly_one = (x.number < 0) != (y.number < 0);
     if (x.number < 0)
         x = sign_changed(x);
@@ -105,7 +106,12 @@ PEER frost_round_bit_answer peer_round_bit_product(frost_round_bit x, frost_roun
                                x.round & y.round};
     if (exactly_one)
         product = sign_changed(product);
-    return (frost_round_bit_answer){product, 0};
+    return (frost_round_bit_answer){product, DONE};
+}
+
+static inline frost_sum_answer sum_done(frost_running_sum s, frost_round_bit word)
+{
+    return (frost_sum_answer){s, word, DONE};
 }
 
 /* A refused call leaves the sum as it was. */
@@ -117,48 +123,48 @@ static inline frost_sum_answer sum_refused(frost_running_sum s, uint32_t cause)
 /* 5 and 7 of a sum whose kept word is good. */
 static inline uint32_t depth_cause(frost_running_sum s)
 {
-    return s.depth == 0 ? 5 : cut_cause(s.kept, s.depth);
+    return s.depth == 0 ? DEPTH_OUTSIDE : cut_cause(s.kept, s.depth);
 }
 
 PEER frost_sum_answer peer_running_sum_open(uint32_t width, int32_t unit, uint64_t depth)
 {
-    frost_running_sum s = {{0, width, unit, 0}, depth};
+    frost_running_sum s = made_sum((frost_round_bit){0, width, unit, 0}, depth);
     uint32_t cause = word_cause(s.kept);
-    if (cause == 0)
+    if (cause == DONE)
         cause = depth_cause(s);
-    if (cause != 0)
-        return sum_refused((frost_running_sum){BLANK, 0}, cause);
-    return (frost_sum_answer){s, BLANK, 0};
+    if (cause != DONE)
+        return sum_refused(made_sum(BLANK, 0), cause);
+    return sum_done(s, BLANK);
 }
 
 PEER frost_sum_answer peer_running_sum_put(frost_running_sum s, frost_round_bit w)
 {
     uint32_t cause = word_cause(s.kept);
-    if (cause == 0)
+    if (cause == DONE)
         cause = word_cause(w);
-    if (cause == 0 && differ(s.kept, w))
-        cause = 4;
-    if (cause == 0)
+    if (cause == DONE && differ(s.kept, w))
+        cause = OPERANDS_DIFFER;
+    if (cause == DONE)
         cause = depth_cause(s);
-    if (cause != 0)
+    if (cause != DONE)
         return sum_refused(s, cause);
     frost_round_bit sum = added(s.kept, w);
     if (!fits(sum.number, sum.width))
-        return sum_refused(s, 8);
+        return sum_refused(s, ANSWER_DOES_NOT_FIT);
     s.kept = sum;
-    return (frost_sum_answer){s, BLANK, 0};
+    return sum_done(s, BLANK);
 }
 
 PEER frost_sum_answer peer_running_sum_hand_out(frost_running_sum s)
 {
     uint32_t cause = word_cause(s.kept);
-    if (cause == 0)
+    if (cause == DONE)
         cause = depth_cause(s);
-    if (cause != 0)
+    if (cause != DONE)
         return sum_refused(s, cause);
     frost_round_bit word = cut(s.kept, s.depth);
     /* The rest keeps the old round bit; its number is the low digits, whose highest is a sign. */
     unsigned above = 64 - (unsigned)s.depth;
     s.kept.number = (int64_t)((uint64_t)s.kept.number << above) >> above;
-    return (frost_sum_answer){s, word, 0};
+    return sum_done(s, word);
 }

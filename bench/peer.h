@@ -7,13 +7,19 @@
 #define PEER_H
 
 #include "calls.h"
+#include "rules.h"
 
 #ifndef PEER
 #define PEER
 DECLARE(peer);
 #endif
 
-/* Asked only of a width from 2 to 63. */
+static inline int good_unit(int32_t unit)
+{
+    return LEAST_UNIT <= unit && unit <= MOST_UNIT;
+}
+
+/* Asked only of a width that is one. */
 static inline int fits(int64_t number, uint32_t width)
 {
     uint64_t half = (uint64_t)1 << (width - 1);

@@ -1,4 +1,6 @@
 /* The same work in every run: good words whose numbers have every size that their width allows, and odd ones. */
+#include <string.h>
+
 #include "work.h"
 
 /* splitmix64. */
@@ -35,16 +37,24 @@ static frost_round_bit good_word(uint64_t *state, uint32_t width, int32_t unit)
     return w;
 }
 
+/* Every width from 0 and two past the most; every unit and some past either end. */
+enum { WIDTHS_AND_PAST = MOST_WIDTH + 3, UNITS_PAST = 5 };
+
+static int32_t odd_unit(uint64_t *state)
+{
+    return (int32_t)below(state, MOST_UNIT - LEAST_UNIT + 2 * UNITS_PAST) + LEAST_UNIT - UNITS_PAST;
+}
+
 /* Mostly of the given format, or every pair would be refused for that. The number may have a digit too many, and often
  * lies at the edge of its width. */
 static frost_round_bit odd_word(uint64_t *state, uint32_t width, int32_t unit)
 {
     if (below(state, 4) == 0) {
-        width = below(state, 66);
-        unit = (int32_t)below(state, 264) - 132;
+        width = below(state, WIDTHS_AND_PAST);
+        unit = odd_unit(state);
     }
-    frost_round_bit w = {number(state, width < 63 ? width : 63), width, unit, 0};
-    if (below(state, 4) == 0 && 1 <= width && width <= 63)
+    frost_round_bit w = {number(state, width < MOST_WIDTH ? width : MOST_WIDTH), width, unit, 0};
+    if (below(state, 4) == 0 && 1 <= width && width <= MOST_WIDTH)
         w.number = signed_by_chance(state, ((int64_t)1 << (width - 1)) - below(state, 3));
     w.round = below(state, 16) % 5 % 3;
     return w;
@@ -52,27 +62,28 @@ static frost_round_bit odd_word(uint64_t *state, uint32_t width, int32_t unit)
 
 static void put_bytes(uint8_t *to, uint32_t x)
 {
-    for (int i = 0; i < 4; i++)
+    for (int i = 0; i < ROUND_AT; i++)
         to[i] = (uint8_t)(x >> 8 * i);
 }
 
 static void make_block(struct work *w, uint64_t *state, uint32_t records)
 {
-    w->kind = 1;
-    w->width = 32;
+    w->kind = ROUND_BIT;
+    w->width = MOST_FILE_WIDTH;
     w->unit = -8;
     w->numbers_count = w->rounds_count = records;
-    const uint8_t front[] = {'R', 'N', 'B', 1, 0, (uint8_t)w->kind, (uint8_t)w->width, (uint8_t)w->unit};
-    for (size_t i = 0; i < sizeof front; i++)
-        w->file[i] = front[i];
-    put_bytes(w->file + 8, records);
+    memcpy(w->file, MARK_AND_VERSION, KIND_AT);
+    w->file[KIND_AT] = (uint8_t)w->kind;
+    w->file[WIDTH_AT] = (uint8_t)w->width;
+    w->file[UNIT_AT] = (uint8_t)w->unit;
+    put_bytes(w->file + COUNT_AT, records);
     for (uint32_t k = 0; k < records; k++) {
         w->numbers[k] = (int32_t)number(state, w->width - 1);
         w->rounds[k] = next(state) & 1;
-        put_bytes(w->file + 12 + 5 * k, (uint32_t)w->numbers[k]);
-        w->file[12 + 5 * k + 4] = w->rounds[k];
+        put_bytes(w->file + file_size(k), (uint32_t)w->numbers[k]);
+        w->file[file_size(k) + ROUND_AT] = w->rounds[k];
     }
-    w->length = 12 + 5 * (size_t)records;
+    w->length = file_size(records);
 }
 
 /* Widths end at 32 and units at 60, so that no product is refused. */
@@ -93,9 +104,9 @@ void make_work(struct work *w, uint64_t seed, uint32_t records)
     }
     make_block(w, &state, records);
     w->numbers_room = w->rounds_room = MOST_RECORDS;
-    w->file_room = LONGEST_FILE_BYTES;
-    w->text_room = LONGEST_TEXT_BYTES;
-    w->little_text_room = LONGEST_TEXT_BYTES - 1;
+    w->file_room = LONGEST_FILE;
+    w->text_room = LONGEST_LISTING;
+    w->little_text_room = LONGEST_LISTING - 1;
 }
 
 /* A file with a byte or two changed and perhaps a wrong length, and a block and rooms that do not fit it. */
@@ -104,14 +115,14 @@ static void make_odd_block(struct work *w, uint64_t *state)
     make_block(w, state, below(state, 4));
     w->file[below(state, (uint32_t)w->length)] = (uint8_t)(next(state) >> below(state, 8));
     if (below(state, 2) == 0)
-        w->file[5] = (uint8_t)below(state, 4);
+        w->file[KIND_AT] = (uint8_t)below(state, KINDS + 1);
     if (below(state, 16) == 0)
-        w->file[7] = 0x80;
+        w->file[UNIT_AT] = (uint8_t)(LEAST_UNIT - 1);
     if (below(state, 8) == 0)
         w->length = below(state, 2 * (uint32_t)w->length);
-    w->kind = below(state, 16) % 5 % 4;
-    w->width = below(state, 2) == 0 ? below(state, 36) : w->width;
-    w->unit = (int32_t)below(state, 264) - 132;
+    w->kind = below(state, 16) % 5 % (KINDS + 1);
+    w->width = below(state, 2) == 0 ? below(state, MOST_FILE_WIDTH + 4) : w->width;
+    w->unit = odd_unit(state);
     w->rounds_count = below(state, 8) == 0 ? 2 : w->numbers_count;
     w->numbers_room = below(state, 8);
     w->rounds_room = below(state, 8);
@@ -123,13 +134,13 @@ static void make_odd_block(struct work *w, uint64_t *state)
 void make_odd_work(struct work *w, uint64_t seed)
 {
     w->words = 16;
-    w->sum_width = below(&seed, 66);
-    w->sum_unit = (int32_t)below(&seed, 264) - 132;
+    w->sum_width = below(&seed, WIDTHS_AND_PAST);
+    w->sum_unit = odd_unit(&seed);
     w->sum_depth = below(&seed, 1 + w->sum_width);
     for (int i = 0; i < w->words; i++) {
-        w->first[i] = odd_word(&seed, 2 + below(&seed, 62), 100);
+        w->first[i] = odd_word(&seed, LEAST_WIDTH + below(&seed, MOST_WIDTH - LEAST_WIDTH + 1), 100);
         w->second[i] = odd_word(&seed, w->first[i].width, w->first[i].unit);
-        w->depths[i] = below(&seed, 8) == 0 ? next(&seed) : below(&seed, 66);
+        w->depths[i] = below(&seed, 8) == 0 ? next(&seed) : below(&seed, WIDTHS_AND_PAST);
         w->samples[i] = odd_word(&seed, w->sum_width, w->sum_unit);
     }
     make_odd_block(w, &seed);

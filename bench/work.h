@@ -3,12 +3,11 @@
 #define WORK_H
 
 #include "frostuldi.h"
+#include "rules.h"
 
 enum {
-    MOST_WORDS = 8000,
-    MOST_RECORDS = 8000,
-    LONGEST_FILE_BYTES = 12 + 5 * MOST_RECORDS,
-    LONGEST_TEXT_BYTES = 248019,
+    /* As many words in one work as records, so that a turn of each row does as many pieces. */
+    MOST_WORDS = MOST_RECORDS,
     /* A running sum that libfixmath has as well: 16 digits before the point and 16 behind it, cut at the point. */
     SUM_WIDTH = 32,
     SUM_UNIT = -16,
@@ -31,7 +30,7 @@ struct work {
     int32_t numbers[MOST_RECORDS];
     uint8_t rounds[MOST_RECORDS];
     size_t length;
-    uint8_t file[LONGEST_FILE_BYTES];
+    uint8_t file[LONGEST_FILE];
     /* The first text room is enough for any listing; the second is less than that. */
     size_t numbers_room, rounds_room, file_room, text_room, little_text_room;
 };
@@ -44,7 +43,7 @@ struct answers {
     int32_t numbers[MOST_RECORDS];
     uint8_t rounds[MOST_RECORDS];
     frost_written written;
-    uint8_t bytes[LONGEST_TEXT_BYTES];
+    uint8_t bytes[LONGEST_LISTING];
 };
 
 /* The last is only checked, on odd work. */
