@@ -8,7 +8,7 @@ Reading: `read TEXT OUTCOME NUMBER ROUNDBIT WIDTH UNIT`, the answered word.
 
 from itertools import product
 
-BLANK = (0, 0, 2, 0)  # "the blank word (number 0, round bit 0, width 2, unit 0)"
+from rules.limits import *
 
 
 def digit_text(n, a, r):
@@ -22,36 +22,36 @@ def digit_text(n, a, r):
 def write(n, e, a, r, size):
     before = "?" * size
     # "A refusal returns ...; lent buffers ... stay as they were"; "0 when refused"
-    if not 2 <= n <= 63:  # 1: "a width is outside 2 to 63"
-        return 1, 0, before
-    if not -127 <= e <= 127:  # 2: "a unit exponent is outside -127 to 127"
-        return 2, 0, before
+    if not width_is_good(n):  # 1: "a width is outside 2 to 63"
+        return WIDTH_OUTSIDE, 0, before
+    if not unit_is_good(e):  # 2: "a unit exponent is outside -127 to 127"
+        return UNIT_OUTSIDE, 0, before
     # 3: "a number is outside its width, or a round bit is not 0 or 1"
-    if not -2**(n - 1) <= a <= 2**(n - 1) - 1 or r not in (0, 1):
-        return 3, 0, before
+    if not fits(a, n) or r not in (0, 1):
+        return NUMBER_OUTSIDE, 0, before
     if size < n:  # 10: "a lent buffer is too short for what would be written"
-        return 10, 0, before
+        return BUFFER_TOO_SHORT, 0, before
     # "Only n bytes of the buffer are written."
-    return 0, n, digit_text(n, a, r) + before[n:]
+    return DONE, n, digit_text(n, a, r) + before[n:]
 
 
 def read(text, e):
     n = len(text)  # "its length is the width"
-    if not 2 <= n <= 63:
-        return 1, *BLANK
-    if not -127 <= e <= 127:
-        return 2, *BLANK
+    if not width_is_good(n):
+        return WIDTH_OUTSIDE, *BLANK
+    if not unit_is_good(e):
+        return UNIT_OUTSIDE, *BLANK
     # 9: "a byte that is not `+`, `0` or `-`, or two nonzero digits of one sign with
     # nothing or only zeros between them"
     nonzero = text.replace("0", "")
     if set(text) - set("+0-") or "++" in nonzero or "--" in nonzero:
-        return 9, *BLANK
+        return TEXT_WRONG, *BLANK
     if set(text) == {"0"}:  # "All zeros reads as (0,0)"
-        return 0, 0, 0, n, e
+        return DONE, 0, 0, n, e
     # "the answer is the word whose digit text it is": the one among all words
     (a, r), = [(a, r) for a in range(-2**(n - 1), 2**(n - 1)) for r in (0, 1)
                if digit_text(n, a, r) == text]
-    return 0, a, r, n, e
+    return DONE, a, r, n, e
 
 
 # "`-+-0+0-0+-0`" (P6); "Digit text `+0+` gives 9; `+-` with unit 0 reads as (1,0), width 2";
@@ -61,7 +61,7 @@ assert read("+-", 0) == (0, 1, 0, 2, 0)
 assert read("+0+", 0) == (9, *BLANK)
 assert read("0+", 0) == (0, 0, 1, 2, 0)
 
-for n in range(2, 7):
+for n in range(LEAST_WIDTH, 7):
     for a in range(-2**(n - 1), 2**(n - 1)):
         for r in (0, 1, 2):
             print("write", n, a, r, *write(n, 0, a, r, 8))
@@ -70,5 +70,5 @@ for n, a, r, size in ((11, -718, 0, 8), (11, -718, 0, 12), (4, 5, 1, 3), (4, 5, 
 for n in range(5):
     for letters in product("+0-x", repeat=n):
         print("read", "".join(letters), *read("".join(letters), 0))
-for e in (-128, -127, 0, 127, 128):
+for e in (LEAST_UNIT - 1, LEAST_UNIT, 0, MOST_UNIT, MOST_UNIT + 1):
     print("read", "+-", *read("+-", e))

@@ -9,21 +9,21 @@ both sums, in half units of 2^-8; and how far the faulty sum has crept.
 A word is (number, round bit, width, unit); a running sum is (kept word, depth).
 """
 
-BLANK = (0, 0, 2, 0)  # "the blank word (number 0, round bit 0, width 2, unit 0)"
+from rules.limits import *
 
-
-def fits(number, n):  # "The number in it lies from -2^(n-1) to 2^(n-1)-1."
-    return -2**(n - 1) <= number <= 2**(n - 1) - 1
+# The long signal's sum: its format and depth.
+WIDTH, UNIT, DEPTH = 24, -8, 8
+WORDS, A_PART, EMPTIED = 10000, 1000, (5000, 10000)
 
 
 def own(word):
     """The first of the causes 1, 2, 3 of a round-bit word, 0 if it has none."""
     a, r, n, e = word
-    if not 2 <= n <= 63:
-        return 1
-    if not -127 <= e <= 127:
-        return 2
-    return 0 if fits(a, n) and r in (0, 1) else 3
+    if not width_is_good(n):
+        return WIDTH_OUTSIDE
+    if not unit_is_good(e):
+        return UNIT_OUTSIDE
+    return DONE if fits(a, n) and r in (0, 1) else NUMBER_OUTSIDE
 
 
 def add(kept, word):  # "Sum: (a + b + (ra and rb), ra or rb) in the common width"
@@ -34,16 +34,20 @@ def add(kept, word):  # "Sum: (a + b + (ra and rb), ra or rb) in the common widt
 def refusal(kept, d, word=None):  # hand out and empty take no word
     # "1, 2, 3 of the first operand, then 1, 2, 3 of the second, then the lowest
     # of the others"; the running sum "is the first operand"
-    first = own(kept) or (own(word) if word else 0)
+    first = own(kept) or (own(word) if word else DONE)
     if first:
         return first
     n, e = kept[2:]
     others = {
-        4: word and word[2:] != (n, e),  # "a word and its running sum, differ in width or unit"
-        5: d == 0 or d > n - 2,  # "a depth of 0 or more than its width less 2"
-        7: e + d > 127,  # "(e+d over 127)"
-        8: word and not fits(add(kept, word)[0], n)}  # "does not fit its width"
-    return min((no for no in others if others[no]), default=0)
+        # "a word and its running sum, differ in width or unit"
+        OPERANDS_DIFFER: word and word[2:] != (n, e),
+        # "a depth of 0 or more than its width less 2"
+        DEPTH_OUTSIDE: d == 0 or d > n - LEAST_WIDTH,
+        # "(e+d over 127)"
+        ANSWER_UNIT_OUTSIDE: e + d > MOST_UNIT,
+        # "does not fit its width"
+        ANSWER_DOES_NOT_FIT: word and not fits(add(kept, word)[0], n)}
+    return min((no for no in others if others[no]), default=DONE)
 
 
 # Each of these is called only when not refused, and answers (word, sum it leaves).
@@ -100,22 +104,22 @@ for word, out, rest in P14:
     print("hand out", no, "word", *answer[:2], "kept", *trace.sum[0][:2])
     assert (no_put, no, answer, trace.sum[0]) == (0, 0, out + (6, 2), rest + (8, 0))
 
-HIGH, LOW, OTHER_UNIT = (8000000, 0, 24, -8), (-8000000, 0, 24, -8), (1, 1, 24, -7)
+HIGH, LOW, OTHER_UNIT = (8000000, 0, WIDTH, UNIT), (-8000000, 0, WIDTH, UNIT), (1, 1, WIDTH, UNIT + 1)
 SIX = (hand_out,), (hand_out,), (put, HIGH), (put, HIGH), (put, LOW), (put, OTHER_UNIT)
-x, both = 1, (Trace(24, -8, 8), Trace(24, -8, 8, faulty=True))
-for k in range(1, 10001):
+x, both = 1, (Trace(WIDTH, UNIT, DEPTH), Trace(WIDTH, UNIT, DEPTH, faulty=True))
+for k in range(1, WORDS + 1):
     x = (75 * x + 74) % 65537
     for t in both:
-        t.call(put, (x % 401 - 200, x // 401 % 2, 24, -8))
+        t.call(put, (x % 401 - 200, x // 401 % 2, WIDTH, UNIT))
         if k % 16 == 0:
             t.call(hand_out)
-    if k % 1000 != 0:
+    if k % A_PART != 0:
         continue
     six, _ = [[t.call(*c)[0] for c in SIX] for t in both]
     print("calls", *six)
-    if k in (5000, 10000):
+    if k in EMPTIED:
         (no, answer), _ = [t.call(empty) for t in both]
         print("empty", no, "word", *answer[:2])
     (i, o, v), (ic, oc, vc) = [(t.taken, t.given, t.half_units(t.sum[0])) for t in both]
-    assert i == o + v and (k not in (5000, 10000) or (i == o and v == 0))
+    assert i == o + v and (k not in EMPTIED or (i == o and v == 0))
     print(f"{k} in {i} out {o} kept {v} crept in {ic} out {oc} kept {vc} by {ic - oc - vc}")
