@@ -30,9 +30,8 @@ const BAD_WIDTHS: [u8; 7] = [
     255,
 ];
 
-/// Bytes of versions that are none: the first two have no layout, the others
-/// have 1 in one byte or more.
-const BAD_VERSIONS: [[u8; 2]; 5] = [[0, 0], [2, 0], [0, 1], [1, 1], [255, 255]];
+/// Some have a good version in one of the two bytes.
+const BAD_VERSIONS: [[u8; 2]; 5] = [[0, 0], [NO_VERSION, 0], [0, 1], [1, 1], [255, 255]];
 
 /// A file of two records with every cause in the set.
 pub fn with_causes(random: &mut Random, causes: u32) -> Vec<u8> {
@@ -161,7 +160,7 @@ fn too_long(random: &mut Random) -> Vec<Vec<u8>> {
 fn spoil_head(mut file: Vec<u8>, causes: u32) -> Vec<u8> {
     let spoilt = [
         (MARK, 1, b'n'),
-        (VERSION, VERSION_AT, BAD_VERSIONS[1][0]),
+        (VERSION, VERSION_AT, NO_VERSION),
         (KIND, KIND_AT, NO_KIND),
         (WIDTH, WIDTH_AT, MOST_FILE_WIDTH + 1),
         (UNIT, UNIT_AT, (LEAST_UNIT - 1) as u8),

@@ -12,9 +12,9 @@ const EDGE_WIDTHS: [u32; 11] = [
     LEAST_WIDTH - 1,
     LEAST_WIDTH,
     LEAST_WIDTH + 1,
-    HALF_WIDTH - 1,
-    HALF_WIDTH,
-    HALF_WIDTH + 1,
+    MIDDLE_WIDTH - 1,
+    MIDDLE_WIDTH,
+    MIDDLE_WIDTH + 1,
     MOST_WIDTH - 1,
     MOST_WIDTH,
     MOST_WIDTH + 1,
@@ -153,12 +153,12 @@ fn shorter_list(takes: Takes) -> Vec<Operand> {
     let widths: Vec<u32> = EDGE_WIDTHS.into_iter().filter(good).collect();
     let units = [
         LEAST_UNIT,
-        -HALF_UNIT,
-        -HALF_UNIT + 1,
+        -MIDDLE_UNIT,
+        -MIDDLE_UNIT + 1,
         0,
         1,
-        HALF_UNIT - 1,
-        HALF_UNIT,
+        MIDDLE_UNIT - 1,
+        MIDDLE_UNIT,
         MOST_UNIT,
     ];
     let mut words = good_words(takes, &widths, &units, end_numbers);
@@ -172,7 +172,7 @@ fn few_words(takes: Takes) -> Vec<Operand> {
         LEAST_WIDTH,
         LEAST_WIDTH + 1,
         LEAST_WIDTH + 2,
-        HALF_WIDTH,
+        MIDDLE_WIDTH,
         MOST_WIDTH - 1,
         MOST_WIDTH,
     ];

@@ -25,10 +25,10 @@ const NEAR_UNITS: [i32; 9] = [
 /// For pairs: two of them add up to an end, or pass it by one.
 const PAIR_UNITS: [i32; 6] = [
     LEAST_UNIT,
-    -HALF_UNIT,
+    -MIDDLE_UNIT,
     0,
-    HALF_UNIT - 1,
-    HALF_UNIT,
+    MIDDLE_UNIT - 1,
+    MIDDLE_UNIT,
     MOST_UNIT - 1,
 ];
 

@@ -2,7 +2,7 @@
 //! have; cases at an edge are told from here.
 
 use crate::model::kinds::{kind_of, Kind, KINDS};
-use crate::model::layout::{Layout, VERSION_1};
+use crate::model::layout::{Layout, LAYOUTS, VERSION_1};
 use crate::model::words;
 
 pub const LEAST_WIDTH: u32 = words::LEAST_WIDTH as u32;
@@ -15,10 +15,10 @@ pub const WIDTHS: u64 = (MOST_WIDTH - LEAST_WIDTH + 1) as u64;
 pub const UNITS: u64 = (MOST_UNIT - LEAST_UNIT + 1) as u64;
 
 /// Two words of this width have the widest round-bit product.
-pub const HALF_WIDTH: u32 = (MOST_WIDTH + 1) / 2;
+pub const MIDDLE_WIDTH: u32 = (MOST_WIDTH + 1) / 2;
 
 /// Two words of this unit pass the ends by one.
-pub const HALF_UNIT: i32 = (MOST_UNIT + 1) / 2;
+pub const MIDDLE_UNIT: i32 = (MOST_UNIT + 1) / 2;
 
 /// The files that are compared: the library's calls name no version.
 pub const LAYOUT: Layout = VERSION_1;
@@ -27,6 +27,9 @@ pub const MOST_FILE_WIDTH: u8 = LAYOUT.most_width as u8;
 pub const FILE_WIDTHS: u64 = (MOST_FILE_WIDTH - LEAST_FILE_WIDTH + 1) as u64;
 pub const MOST_RECORDS: usize = LAYOUT.most_records;
 pub const LONGEST_FILE: usize = LAYOUT.longest_file;
+
+/// The version after the last, which is none, in its lower byte.
+pub const NO_VERSION: u8 = LAYOUTS.len() as u8 + 1;
 
 /// The byte after the last kind's, which is no kind's.
 pub const NO_KIND: u8 = KINDS.len() as u8;

@@ -93,9 +93,9 @@ fn unit(random: &mut Random) -> i32 {
             LEAST_UNIT + 1,
             MOST_UNIT - 1,
             MOST_UNIT,
-            -HALF_UNIT,
-            HALF_UNIT,
-            HALF_UNIT - 1,
+            -MIDDLE_UNIT,
+            MIDDLE_UNIT,
+            MIDDLE_UNIT - 1,
         ]),
         _ => LEAST_UNIT + random.below(UNITS) as i32,
     }
