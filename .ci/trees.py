@@ -97,6 +97,9 @@ def try_first(tree, good, text, hold):
     hold("the next listing proves nothing and says nothing", ended == (text, "", 0) and not tree.questions(), ended)
     ended = tree.list(good, PATH=tree.path_without_rt())
     hold("nor does it need the toolchain", ended == (text, "", 0), ended)
+    copy = shutil.copytree(tree.path, tree.path.with_name("copied tree"), ignore=shutil.ignore_patterns("secret*"))
+    ended = run([str(copy / "list"), str(good)], cwd="/", **tree.env)
+    hold("nor does a copy of the tree", ended == (text, "", 0) and not tree.questions(), ended)
 
 
 def try_stale(tree, good, text, hold):
