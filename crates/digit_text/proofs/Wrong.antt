@@ -64,5 +64,6 @@ abbrev wrong : List Row
 wrong = standIns ++ mistakes
 
 all-wrong : all (length wrong) (λ k. differs (getD wrong k (read [] (pos 0) (refused 1)))) ≡ true
-unfolding firstBad fitsWidth floorBy lowest digit formatCheck wordCheck roundBitCheck signedDigit byteOf digitOf byteAt textValue signBefore writeAnswer lentAfter text writeCheck writeOf bufferOf goodAt firstFault faulty readCheck readRound readWord readOf
+unfolding firstBad fitsWidth floorBy lowest digit formatCheck wordCheck roundBitCheck signedDigit byteOf digitOf byteAt textValue signBefore writeAnswer
+    lentAfter text writeCheck writeOf bufferOf goodAt firstFault faulty readCheck readRound readWord readOf
 all-wrong = refl

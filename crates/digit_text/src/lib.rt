@@ -13,13 +13,13 @@ ghost use lib.Dec.{eqb};
 ghost use lib.IntN.{pos, _-ℤ_};
 ghost use lib.ListN.{length};
 ghost use Rattle.integers.specs.Lists.{over};
+ghost use Rattle.words.specs.RoundBit.{roundBitRefused, roundBitDone};
 ghost use Rattle.digit_text.specs.Digits.{none, signedDigit, byteOf, digitOf, byteAt, textValue, writeCheck, writeOf, bufferOf};
 ghost use Rattle.digit_text.specs.Reading.{strange, firstFault, readCheck, readRound, readWord, readAnswer, readOf};
 use words::Cause;
 use words::Format;
 use words::Outcome;
 use words::RoundBit;
-use words::RoundBitAnswer;
 use words::RoundBitWord;
 use words::WriteAnswer;
 
@@ -54,9 +54,10 @@ fn digit_byte(n: RoundBit, i: u64) -> u8
 fn write_check(w: RoundBitWord, room: usize) -> Outcome
     ensures { λ r. ⌜ r ≡ writeCheck w room ⌝ }
 {
-    match words::round_bit_check(w) {
-        Outcome::Refused(c) => Outcome::Refused(c),
-        Outcome::Done => words::refuse(Cause::Buffer, room < (w.format.width as usize)),
+    if let Outcome::Refused(c) = words::round_bit_check(w) {
+        Outcome::Refused(c)
+    } else {
+        words::refuse(Cause::Buffer, room < (w.format.width as usize))
     }
 }
 
@@ -128,12 +129,15 @@ fn read_check(text: &[u8], unit: i32) -> Outcome
     ensures { λ r. ⌜ r ≡ readCheck (now (text .entry)) unit ⌝ }
 {
     let n = text.len();
-    match words::refuse(Cause::Width, !((2 <= n) & (n <= 63))) {
-        Outcome::Refused(c) => Outcome::Refused(c),
-        Outcome::Done => match words::refuse(Cause::Unit, !((-127 <= unit) & (unit <= 127))) {
-            Outcome::Refused(c) => Outcome::Refused(c),
-            Outcome::Done => words::refuse(Cause::DigitText, first_fault(text) < n),
-        },
+    if let Outcome::Refused(c) = words::refuse(Cause::Width, !((2 <= n) & (n <= 63))) {
+        Outcome::Refused(c)
+    } else if let Outcome::Refused(c) = words::refuse(
+        Cause::Unit,
+        !((-127 <= unit) & (unit <= 127)),
+    ) {
+        Outcome::Refused(c)
+    } else {
+        words::refuse(Cause::DigitText, first_fault(text) < n)
     }
 }
 
@@ -190,13 +194,22 @@ fn read_word(text: &[u8], unit: i32) -> RoundBitWord
     }
 }
 
-fn read_answer(a: RoundBitAnswer) -> ReadAnswer
-    ensures { λ r. ⌜ r ≡ readAnswer a ⌝ }
+fn read_refused(c: Cause) -> ReadAnswer
+    ensures { λ r. ⌜ r ≡ readAnswer (roundBitRefused c) ⌝ }
 {
-    let o = a.outcome;
-    let w = a.word;
+    let a = words::round_bit_refused(c);
+    let blank = a.word;
     ReadAnswer {
-        outcome: o,
+        outcome: Outcome::Refused(c),
+        word: blank,
+    }
+}
+
+fn read_done(w: RoundBitWord) -> ReadAnswer
+    ensures { λ r. ⌜ r ≡ readAnswer (roundBitDone w) ⌝ }
+{
+    ReadAnswer {
+        outcome: Outcome::Done,
         word: w,
     }
 }
@@ -206,7 +219,7 @@ pub fn read(text: &[u8], unit: i32) -> ReadAnswer
     ensures { λ r. ⌜ r ≡ readOf (now (text .entry)) unit ⌝ }
 {
     match read_check(text, unit) {
-        Outcome::Refused(c) => read_answer(words::round_bit_refused(c)),
-        Outcome::Done => read_answer(words::round_bit_done(read_word(text, unit))),
+        Outcome::Refused(c) => read_refused(c),
+        Outcome::Done => read_done(read_word(text, unit)),
     }
 }

@@ -5,17 +5,14 @@ use lib.IntN.{ℤ}
 use mir.Syntax.{w64}
 use mir.Val.{SFits, toZ, ofZ}
 use mir.Facts.{toZ-ofZ}
-use Rattle.words.specs.Refusals.{_orElse_, wordCheck}
-use Rattle.words.specs.Formats.{narrower, narrowerCheck, wider, answerCheck, formatAnswer}
+use Rattle.words.specs.Formats.{narrower, wider, answerCheck}
 use Rattle.words.specs.RoundBit.{roundBitCheck}
 use Rattle.words.specs.HalfUnit.{halfUnitWord, halfUnitCheck}
 use Rattle.words.specs.declared.Outcome.the-variants.{Done}
 use Rattle.words.specs.declared.Format.{Format}
-use Rattle.words.specs.declared.FormatAnswer.{FormatAnswer}
 use Rattle.words.specs.declared.RoundBitWord.{RoundBitWord}
 use Rattle.words.specs.declared.HalfUnitWord.{HalfUnitWord}
-use Rattle.words.proofs.Laws.{both-passed, three-passed, right, machine}
-use Rattle.words.proofs.Formats.{answer-format}
+use Rattle.words.proofs.Laws.{both-passed, three-passed}
 use Rattle.half_unit.specs.Conversions.{toPlainCheck, fromRoundBitCheck}
 use Rattle.half_unit.specs.Arithmetic.{sumCheck, productFormat, productCheck}
 
@@ -28,11 +25,11 @@ from-round-bit-passed w e = both-passed (roundBitCheck w) (answerCheck (wider (w
 pub sum-passed : (x y : HalfUnitWord) → sumCheck x y ≡ Done → (halfUnitCheck x ≡ Done) × (halfUnitCheck y ≡ Done)
 sum-passed x y e = let p = three-passed (halfUnitCheck x) (halfUnitCheck y) _ e in (p .0, p .1)
 
-pub product-passed : (x y : HalfUnitWord) → productCheck x y ≡ Done → (halfUnitCheck x ≡ Done) × (halfUnitCheck y ≡ Done) × (answerCheck (productFormat (x .format) (y .format)) ≡ Done)
+pub product-passed : (x y : HalfUnitWord) → productCheck x y ≡ Done →
+    (halfUnitCheck x ≡ Done) × (halfUnitCheck y ≡ Done) × (answerCheck (productFormat (x .format) (y .format)) ≡ Done)
 product-passed x y e = three-passed (halfUnitCheck x) (halfUnitCheck y) _ e
 
--- ---- of a word of either kind that passed: the number q that the code made of x by a rule, in the format that it was handed for the depth
-pub narrowed : (rule : ℤ → ℕ → ℤ) (f : Format) (x q : ℤ) (d : ℕ) (a : FormatAnswer) → (wordCheck f x 0 orElse narrowerCheck f d) ≡ Done → a ≡ formatAnswer (narrowerCheck f d) (narrower f d) → SFits w64 q → q ≡ rule (toZ w64 (ofZ w64 x)) d → halfUnitWord (toZ w64 (ofZ w64 q)) (a .format) ≡ halfUnitWord (rule x d) (narrower f d)
-narrowed rule f x q d a e g s h =
-    let p = both-passed (wordCheck f x 0) (narrowerCheck f d) e in
-    rw (g, answer-format _ _ (p .1), toZ-ofZ s, h, toZ-ofZ (machine (right f x 0 (p .0))))
+-- ---- of a word of either kind: the number q that the code made of x by a rule, in the format g that it was handed for the depth
+pub narrowed : (rule : ℤ → ℕ → ℤ) (f g : Format) (x q : ℤ) (d : ℕ) → SFits w64 x → g ≡ narrower f d → SFits w64 q → q ≡ rule (toZ w64 (ofZ w64 x)) d →
+    halfUnitWord (toZ w64 (ofZ w64 q)) g ≡ halfUnitWord (rule x d) (narrower f d)
+narrowed rule f g x q d s h t e = rw (h, toZ-ofZ t, e, toZ-ofZ s)

@@ -18,7 +18,8 @@ use Rattle.words.specs.declared.PlainWord.{PlainWord}
 use Rattle.words.specs.declared.RoundBitWord.{RoundBitWord}
 use Rattle.words.specs.declared.HalfUnitWord.{HalfUnitWord}
 use Rattle.half_unit.specs.Cuts.{signChangeWord, signChangeOf, cutWord, cutOf}
-use Rattle.half_unit.specs.Conversions.{fromPlainUpWord, fromPlainUpOf, evenFloor, fromPlainEvenWord, fromPlainEvenOf, toPlainWord, toPlainOf, toRoundBitWord, toRoundBitOf, fromRoundBitWord, fromRoundBitOf}
+use Rattle.half_unit.specs.Conversions.{fromPlainUpWord, fromPlainUpOf, evenFloor, fromPlainEvenWord, fromPlainEvenOf}
+use Rattle.half_unit.specs.Conversions.{toPlainWord, toPlainOf, toRoundBitWord, toRoundBitOf, fromRoundBitWord, fromRoundBitOf}
 use Rattle.half_unit.specs.Arithmetic.{sumUpWord, sumUpOf, sumEvenWord, sumEvenOf, multiplied, productWord, productOf}
 
 data Row : Type 0 where
@@ -129,5 +130,7 @@ abbrev wrong : List Row
 wrong = standIns ++ mistakes
 
 all-wrong : all (length wrong) (λ k. differs (getD wrong k (signChange (at 5 (pos 3)) (refused 3)))) ≡ true
-unfolding firstBad fitsWidth floorBy lowest cleared digit anyBelow formatCheck wordCheck narrowerCheck answerCheck plainCheck roundBitCheck halfUnitCheck halfUnitFitted signChangeWord cutWord fromPlainUpWord evenFloor fromPlainEvenWord toPlainWord toRoundBitWord fromRoundBitWord sumUpWord sumEvenWord multiplied productWord
+unfolding firstBad fitsWidth floorBy lowest cleared digit anyBelow formatCheck wordCheck narrowerCheck answerCheck plainCheck roundBitCheck halfUnitCheck
+    halfUnitFitted signChangeWord cutWord fromPlainUpWord evenFloor fromPlainEvenWord toPlainWord toRoundBitWord fromRoundBitWord sumUpWord sumEvenWord
+    multiplied productWord
 all-wrong = refl

@@ -12,7 +12,9 @@ ghost use mathlib.Core.Path.{_≡_};
 ghost use Prim.Native.Nat.{_+_, _*_, _^_, _<_, _≤_};
 ghost use lib.IntN.{pos, _+ℤ_, _*ℤ_};
 ghost use lib.Signed.{mag};
-ghost use Rattle.words.specs.Formats.{answerCheck, formatAnswer};
+ghost use Rattle.words.specs.Refusals.{blankFormat};
+ghost use Rattle.words.specs.Formats.{narrower, wider, answerCheck, formatAnswer};
+ghost use Rattle.words.specs.HalfUnit.{halfUnitRefused, halfUnitDone};
 ghost use Rattle.half_unit.specs.Cuts.{signChangeWord, signChangeOf, cutWord, cutCheck, cutAnswer, cutOf};
 ghost use Rattle.half_unit.specs.Conversions.{fromPlainCheck, fromPlainUpWord, fromPlainUpOf, evenFloor, fromPlainEvenWord, fromPlainEvenOf, toPlainWord, toPlainCheck, toPlainOf, toRoundBitWord, toRoundBitOf, fromRoundBitWord, fromRoundBitCheck, fromRoundBitOf};
 ghost use Rattle.half_unit.specs.Arithmetic.{sumCheck, sumUpWord, sumUpOf, sumEvenWord, sumEvenOf, multiplied, productFormat, productWord, productCheck, productOf};
@@ -56,25 +58,33 @@ pub fn sign_change(w: HalfUnitWord) -> HalfUnitAnswer
     }
 }
 
-// Cut by d: the floor.
-fn cut_check(w: HalfUnitWord, d: u64) -> Outcome
-    ensures { λ r. ⌜ r ≡ cutCheck w d ⌝ }
+// A refusal in place of a format.
+fn format_refused(c: Cause) -> FormatAnswer
+    ensures { λ r. ⌜ r ≡ formatAnswer (Outcome.Refused c) blankFormat ⌝ }
 {
-    match words::half_unit_check(w) {
-        Outcome::Refused(c) => Outcome::Refused(c),
-        Outcome::Done => {
-            let a = words::narrower(w.format, d);
-            a.outcome
-        }
+    let a = words::half_unit_refused(c);
+    let f = a.word.format;
+    FormatAnswer {
+        outcome: Outcome::Refused(c),
+        format: f,
     }
 }
 
-fn cut_word(w: HalfUnitWord, d: u64) -> HalfUnitWord
-    requires { ⌜ cutCheck w d ≡ Outcome.Done ⌝ }
+// Cut by d: the floor. Its check finds its format.
+fn cut_format(w: HalfUnitWord, d: u64) -> FormatAnswer
+    ensures { λ r. ⌜ r ≡ formatAnswer (cutCheck w d) (narrower (w .format) d) ⌝ }
+{
+    if let Outcome::Refused(c) = words::half_unit_check(w) {
+        format_refused(c)
+    } else {
+        words::narrower(w.format, d)
+    }
+}
+
+fn cut_word(w: HalfUnitWord, d: u64, f: Format) -> HalfUnitWord
+    requires { ⌜ f ≡ narrower (w .format) d ⌝ }
     ensures { λ r. ⌜ r ≡ cutWord w d ⌝ }
 {
-    let a = words::narrower(w.format, d);
-    let f = a.format;
     let floor = integers::floor_by(w.number.0, d);
     HalfUnitWord {
         number: HalfUnit(floor),
@@ -82,13 +92,22 @@ fn cut_word(w: HalfUnitWord, d: u64) -> HalfUnitWord
     }
 }
 
-fn cut_answer(a: HalfUnitAnswer) -> CutAnswer
-    ensures { λ r. ⌜ r ≡ cutAnswer a ⌝ }
+fn cut_refused(c: Cause) -> CutAnswer
+    ensures { λ r. ⌜ r ≡ cutAnswer (halfUnitRefused c) ⌝ }
 {
-    let o = a.outcome;
-    let w = a.word;
+    let a = words::half_unit_refused(c);
+    let blank = a.word;
     CutAnswer {
-        outcome: o,
+        outcome: Outcome::Refused(c),
+        word: blank,
+    }
+}
+
+fn cut_done(w: HalfUnitWord) -> CutAnswer
+    ensures { λ r. ⌜ r ≡ cutAnswer (halfUnitDone w) ⌝ }
+{
+    CutAnswer {
+        outcome: Outcome::Done,
         word: w,
     }
 }
@@ -96,31 +115,29 @@ fn cut_answer(a: HalfUnitAnswer) -> CutAnswer
 pub fn cut(w: HalfUnitWord, d: u64) -> CutAnswer
     ensures { λ r. ⌜ r ≡ cutOf w d ⌝ }
 {
-    match cut_check(w, d) {
-        Outcome::Refused(c) => cut_answer(words::half_unit_refused(c)),
-        Outcome::Done => cut_answer(words::half_unit_done(cut_word(w, d))),
+    let a = cut_format(w, d);
+    let o = a.outcome;
+    match o {
+        Outcome::Refused(c) => cut_refused(c),
+        Outcome::Done => cut_done(cut_word(w, d, a.format)),
     }
 }
 
 // From plain with a depth, by the up rule.
-fn from_plain_check(w: PlainWord, d: u64) -> Outcome
-    ensures { λ r. ⌜ r ≡ fromPlainCheck w d ⌝ }
+fn from_plain_format(w: PlainWord, d: u64) -> FormatAnswer
+    ensures { λ r. ⌜ r ≡ formatAnswer (fromPlainCheck w d) (narrower (w .format) d) ⌝ }
 {
-    match words::plain_check(w) {
-        Outcome::Refused(c) => Outcome::Refused(c),
-        Outcome::Done => {
-            let a = words::narrower(w.format, d);
-            a.outcome
-        }
+    if let Outcome::Refused(c) = words::plain_check(w) {
+        format_refused(c)
+    } else {
+        words::narrower(w.format, d)
     }
 }
 
-fn from_plain_up_word(w: PlainWord, d: u64) -> HalfUnitWord
-    requires { ⌜ fromPlainCheck w d ≡ Outcome.Done ⌝ }
+fn from_plain_up_word(w: PlainWord, d: u64, f: Format) -> HalfUnitWord
+    requires { ⌜ f ≡ narrower (w .format) d ⌝ }
     ensures { λ r. ⌜ r ≡ fromPlainUpWord w d ⌝ }
 {
-    let a = words::narrower(w.format, d);
-    let f = a.format;
     let number = integers::floor_by(w.number.0, d);
     HalfUnitWord {
         number: HalfUnit(number),
@@ -131,9 +148,11 @@ fn from_plain_up_word(w: PlainWord, d: u64) -> HalfUnitWord
 pub fn from_plain_up(w: PlainWord, d: u64) -> HalfUnitAnswer
     ensures { λ r. ⌜ r ≡ fromPlainUpOf w d ⌝ }
 {
-    match from_plain_check(w, d) {
+    let a = from_plain_format(w, d);
+    let o = a.outcome;
+    match o {
         Outcome::Refused(c) => words::half_unit_refused(c),
-        Outcome::Done => words::half_unit_done(from_plain_up_word(w, d)),
+        Outcome::Done => words::half_unit_done(from_plain_up_word(w, d, a.format)),
     }
 }
 
@@ -150,12 +169,10 @@ fn even_floor(x: i64, d: u64) -> i64
     }
 }
 
-fn from_plain_even_word(w: PlainWord, d: u64) -> HalfUnitWord
-    requires { ⌜ fromPlainCheck w d ≡ Outcome.Done ⌝ }
+fn from_plain_even_word(w: PlainWord, d: u64, f: Format) -> HalfUnitWord
+    requires { ⌜ f ≡ narrower (w .format) d ⌝ }
     ensures { λ r. ⌜ r ≡ fromPlainEvenWord w d ⌝ }
 {
-    let a = words::narrower(w.format, d);
-    let f = a.format;
     let even = even_floor(w.number.0, d);
     HalfUnitWord {
         number: HalfUnit(even),
@@ -166,22 +183,22 @@ fn from_plain_even_word(w: PlainWord, d: u64) -> HalfUnitWord
 pub fn from_plain_even(w: PlainWord, d: u64) -> HalfUnitAnswer
     ensures { λ r. ⌜ r ≡ fromPlainEvenOf w d ⌝ }
 {
-    match from_plain_check(w, d) {
+    let a = from_plain_format(w, d);
+    let o = a.outcome;
+    match o {
         Outcome::Refused(c) => words::half_unit_refused(c),
-        Outcome::Done => words::half_unit_done(from_plain_even_word(w, d)),
+        Outcome::Done => words::half_unit_done(from_plain_even_word(w, d, a.format)),
     }
 }
 
 // To plain: 2w+1, one digit more.
-fn to_plain_check(w: HalfUnitWord) -> Outcome
-    ensures { λ r. ⌜ r ≡ toPlainCheck w ⌝ }
+fn to_plain_format(w: HalfUnitWord) -> FormatAnswer
+    ensures { λ r. ⌜ r ≡ formatAnswer (toPlainCheck w) (wider (w .format) 1) ⌝ }
 {
-    match words::half_unit_check(w) {
-        Outcome::Refused(c) => Outcome::Refused(c),
-        Outcome::Done => {
-            let a = words::wider(w.format, 1);
-            a.outcome
-        }
+    if let Outcome::Refused(c) = words::half_unit_check(w) {
+        format_refused(c)
+    } else {
+        words::wider(w.format, 1)
     }
 }
 
@@ -193,12 +210,10 @@ fn doubled(x: i64, r: u8) -> i64
     2 * x + r as i64
 }
 
-fn to_plain_word(w: HalfUnitWord) -> PlainWord
-    requires { ⌜ toPlainCheck w ≡ Outcome.Done ⌝ }
+fn to_plain_word(w: HalfUnitWord, f: Format) -> PlainWord
+    requires { ⌜ (toPlainCheck w ≡ Outcome.Done) × (f ≡ wider (w .format) 1) ⌝ }
     ensures { λ r. ⌜ r ≡ toPlainWord w ⌝ }
 {
-    let a = words::wider(w.format, 1);
-    let f = a.format;
     let number = doubled(w.number.0, 1);
     PlainWord {
         number: Plain(number),
@@ -209,19 +224,20 @@ fn to_plain_word(w: HalfUnitWord) -> PlainWord
 pub fn to_plain(w: HalfUnitWord) -> PlainAnswer
     ensures { λ r. ⌜ r ≡ toPlainOf w ⌝ }
 {
-    match to_plain_check(w) {
+    let a = to_plain_format(w);
+    let o = a.outcome;
+    match o {
         Outcome::Refused(c) => words::plain_refused(c),
-        Outcome::Done => words::plain_done(to_plain_word(w)),
+        Outcome::Done => words::plain_done(to_plain_word(w, a.format)),
     }
 }
 
 // To round-bit: the plain word with round bit 0.
-fn to_round_bit_word(w: HalfUnitWord) -> RoundBitWord
-    requires { ⌜ toPlainCheck w ≡ Outcome.Done ⌝ }
+fn to_round_bit_word(w: HalfUnitWord, f: Format) -> RoundBitWord
+    requires { ⌜ (toPlainCheck w ≡ Outcome.Done) × (f ≡ wider (w .format) 1) ⌝ }
     ensures { λ r. ⌜ r ≡ toRoundBitWord w ⌝ }
 {
-    let p = to_plain_word(w);
-    let f = p.format;
+    let p = to_plain_word(w, f);
     RoundBitWord {
         number: RoundBit(p.number.0, 0),
         format: f,
@@ -231,31 +247,29 @@ fn to_round_bit_word(w: HalfUnitWord) -> RoundBitWord
 pub fn to_round_bit(w: HalfUnitWord) -> RoundBitAnswer
     ensures { λ r. ⌜ r ≡ toRoundBitOf w ⌝ }
 {
-    match to_plain_check(w) {
+    let a = to_plain_format(w);
+    let o = a.outcome;
+    match o {
         Outcome::Refused(c) => words::round_bit_refused(c),
-        Outcome::Done => words::round_bit_done(to_round_bit_word(w)),
+        Outcome::Done => words::round_bit_done(to_round_bit_word(w, a.format)),
     }
 }
 
 // From round-bit: 2a+r, the middle of the word's interval.
-fn from_round_bit_check(w: RoundBitWord) -> Outcome
-    ensures { λ r. ⌜ r ≡ fromRoundBitCheck w ⌝ }
+fn from_round_bit_format(w: RoundBitWord) -> FormatAnswer
+    ensures { λ r. ⌜ r ≡ formatAnswer (fromRoundBitCheck w) (wider (w .format) 1) ⌝ }
 {
-    match words::round_bit_check(w) {
-        Outcome::Refused(c) => Outcome::Refused(c),
-        Outcome::Done => {
-            let a = words::wider(w.format, 1);
-            a.outcome
-        }
+    if let Outcome::Refused(c) = words::round_bit_check(w) {
+        format_refused(c)
+    } else {
+        words::wider(w.format, 1)
     }
 }
 
-fn from_round_bit_word(w: RoundBitWord) -> HalfUnitWord
-    requires { ⌜ fromRoundBitCheck w ≡ Outcome.Done ⌝ }
+fn from_round_bit_word(w: RoundBitWord, f: Format) -> HalfUnitWord
+    requires { ⌜ (fromRoundBitCheck w ≡ Outcome.Done) × (f ≡ wider (w .format) 1) ⌝ }
     ensures { λ r. ⌜ r ≡ fromRoundBitWord w ⌝ }
 {
-    let a = words::wider(w.format, 1);
-    let f = a.format;
     let number = doubled(w.number.0, w.number.1);
     HalfUnitWord {
         number: HalfUnit(number),
@@ -266,9 +280,11 @@ fn from_round_bit_word(w: RoundBitWord) -> HalfUnitWord
 pub fn from_round_bit(w: RoundBitWord) -> HalfUnitAnswer
     ensures { λ r. ⌜ r ≡ fromRoundBitOf w ⌝ }
 {
-    match from_round_bit_check(w) {
+    let a = from_round_bit_format(w);
+    let o = a.outcome;
+    match o {
         Outcome::Refused(c) => words::half_unit_refused(c),
-        Outcome::Done => words::half_unit_done(from_round_bit_word(w)),
+        Outcome::Done => words::half_unit_done(from_round_bit_word(w, a.format)),
     }
 }
 
@@ -276,12 +292,12 @@ pub fn from_round_bit(w: RoundBitWord) -> HalfUnitAnswer
 fn sum_check(x: HalfUnitWord, y: HalfUnitWord) -> Outcome
     ensures { λ r. ⌜ r ≡ sumCheck x y ⌝ }
 {
-    match words::half_unit_check(x) {
-        Outcome::Refused(c) => Outcome::Refused(c),
-        Outcome::Done => match words::half_unit_check(y) {
-            Outcome::Refused(c) => Outcome::Refused(c),
-            Outcome::Done => words::refuse(Cause::Mismatch, words::differ(x.format, y.format)),
-        },
+    if let Outcome::Refused(c) = words::half_unit_check(x) {
+        Outcome::Refused(c)
+    } else if let Outcome::Refused(c) = words::half_unit_check(y) {
+        Outcome::Refused(c)
+    } else {
+        words::refuse(Cause::Mismatch, words::differ(x.format, y.format))
     }
 }
 
@@ -336,7 +352,7 @@ fn multiplied(x: i64, y: i64) -> i64
     2 * (x * y) + x + y
 }
 
-fn product_format(f: Format, g: Format) -> FormatAnswer
+fn formats_multiplied(f: Format, g: Format) -> FormatAnswer
     ensures { λ r. ⌜ r ≡ formatAnswer (answerCheck (productFormat f g)) (productFormat f g) ⌝ }
 {
     words::formed(
@@ -345,27 +361,22 @@ fn product_format(f: Format, g: Format) -> FormatAnswer
     )
 }
 
-fn product_check(x: HalfUnitWord, y: HalfUnitWord) -> Outcome
-    ensures { λ r. ⌜ r ≡ productCheck x y ⌝ }
+fn product_format(x: HalfUnitWord, y: HalfUnitWord) -> FormatAnswer
+    ensures { λ r. ⌜ r ≡ formatAnswer (productCheck x y) (productFormat (x .format) (y .format)) ⌝ }
 {
-    match words::half_unit_check(x) {
-        Outcome::Refused(c) => Outcome::Refused(c),
-        Outcome::Done => match words::half_unit_check(y) {
-            Outcome::Refused(c) => Outcome::Refused(c),
-            Outcome::Done => {
-                let a = product_format(x.format, y.format);
-                a.outcome
-            }
-        },
+    if let Outcome::Refused(c) = words::half_unit_check(x) {
+        format_refused(c)
+    } else if let Outcome::Refused(c) = words::half_unit_check(y) {
+        format_refused(c)
+    } else {
+        formats_multiplied(x.format, y.format)
     }
 }
 
-fn product_word(x: HalfUnitWord, y: HalfUnitWord) -> HalfUnitWord
-    requires { ⌜ productCheck x y ≡ Outcome.Done ⌝ }
+fn product_word(x: HalfUnitWord, y: HalfUnitWord, f: Format) -> HalfUnitWord
+    requires { ⌜ (productCheck x y ≡ Outcome.Done) × (f ≡ productFormat (x .format) (y .format)) ⌝ }
     ensures { λ r. ⌜ r ≡ productWord x y ⌝ }
 {
-    let a = product_format(x.format, y.format);
-    let f = a.format;
     let number = multiplied(x.number.0, y.number.0);
     HalfUnitWord {
         number: HalfUnit(number),
@@ -376,8 +387,10 @@ fn product_word(x: HalfUnitWord, y: HalfUnitWord) -> HalfUnitWord
 pub fn product(x: HalfUnitWord, y: HalfUnitWord) -> HalfUnitAnswer
     ensures { λ r. ⌜ r ≡ productOf x y ⌝ }
 {
-    match product_check(x, y) {
+    let a = product_format(x, y);
+    let o = a.outcome;
+    match o {
         Outcome::Refused(c) => words::half_unit_refused(c),
-        Outcome::Done => words::half_unit_done(product_word(x, y)),
+        Outcome::Done => words::half_unit_done(product_word(x, y, a.format)),
     }
 }

@@ -22,7 +22,8 @@ is-pos (pos n) h = refl
 is-pos (negsuc n) h = absurd (h .le)
 
 -- the product of numbers that are not negative, in ℕ
-pub magnitude-product-is : (m n : RoundBit) → pos 0 ≤ℤ m .0 → pos 0 ≤ℤ n .0 → magnitudeProduct m n ≡ record { 0 = pos (mag (m .0) * mag (n .0) + mag (m .0) * n .1 + mag (n .0) * m .1); 1 = bitAnd (m .1) (n .1) }
+pub magnitude-product-is : (m n : RoundBit) → pos 0 ≤ℤ m .0 → pos 0 ≤ℤ n .0 →
+    magnitudeProduct m n ≡ record { 0 = pos (mag (m .0) * mag (n .0) + mag (m .0) * n .1 + mag (n .0) * m .1); 1 = bitAnd (m .1) (n .1) }
 unfolding magnitudeProduct
 magnitude-product-is m n h k = rw (number (m .0) (n .0) (m .1) (n .1) h k)
   where
@@ -43,7 +44,8 @@ magnitude-right n h =
     record { bit = signs-if-bit (negative n) n h; positive = rw e (omega ints); size = ap mag e }
 
 -- two sizes of n and m digits, n + m - 1 ≤ 63: their product is far inside an i64
-pub product-room : (x y : RoundBitWord) → productCheck x y ≡ Done → (x .number .1 ≤ 1) × (y .number .1 ≤ 1) × ((mag (x .number .0) + 1) * (mag (y .number .0) + 1) ≤ 2 ^ 62)
+pub product-room : (x y : RoundBitWord) → productCheck x y ≡ Done →
+    (x .number .1 ≤ 1) × (y .number .1 ≤ 1) × ((mag (x .number .0) + 1) * (mag (y .number .0) + 1) ≤ 2 ^ 62)
 product-room x y e =
     let p = product-passed x y e in
     let f = round-bit-right x (p .0) in

@@ -4,6 +4,7 @@ use Rattle.integers.specs.OneOutcome.{OneResult}
 use Rattle.round_bit.proofs.sign_change.Reads as sign-change
 use Rattle.round_bit.proofs.cut.Reads as cut
 use Rattle.round_bit.proofs.rest.Reads as rest
+use Rattle.round_bit.proofs.cut_and_rest.Reads as cut-and-rest
 use Rattle.round_bit.proofs.even_cut.Reads as even-cut
 use Rattle.round_bit.proofs.widen.Reads as widen
 use Rattle.round_bit.proofs.sum.Reads as sum
@@ -20,6 +21,9 @@ cut-one a x y e f p q = p ∙ sym q
 
 rest-one : OneResult (rest.Post tt)
 rest-one a x y e f p q = p ∙ sym q
+
+cut-and-rest-one : OneResult (cut-and-rest.Post tt)
+cut-and-rest-one a x y e f p q = p ∙ sym q
 
 even-cut-one : OneResult (even-cut.Post tt)
 even-cut-one a x y e f p q = p ∙ sym q

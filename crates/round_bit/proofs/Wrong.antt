@@ -16,7 +16,8 @@ use Rattle.words.specs.Flat.{Flat, flat, laidFlat, flatPlain, flatRoundBit, sam
 use Rattle.words.specs.declared.PlainWord.{PlainWord}
 use Rattle.words.specs.declared.RoundBitWord.{RoundBitWord}
 use Rattle.round_bit.specs.Cuts.{signChangeWord, signChangeOf, cutBy, cutOf, restWord, restOf, evenRoundBit, evenCutOf, widenWord, widenOf}
-use Rattle.round_bit.specs.Arithmetic.{sumWord, sumOf, differenceOf, magnitudeProduct, multiplied, productWord, productOf, toPlainWord, toPlainOf, fromPlainWord, fromPlainOf}
+use Rattle.round_bit.specs.Arithmetic.{sumWord, sumOf, differenceOf, magnitudeProduct, multiplied}
+use Rattle.round_bit.specs.Arithmetic.{productWord, productOf, toPlainWord, toPlainOf, fromPlainWord, fromPlainOf}
 
 data Row : Type 0 where
   signChange toPlain : RoundBitWord → Flat → Row
@@ -127,5 +128,6 @@ abbrev wrong : List Row
 wrong = standIns ++ mistakes
 
 all-wrong : all (length wrong) (λ k. differs (getD wrong k (toPlain (at 5 (pos 3) 1) (refused 3)))) ≡ true
-unfolding firstBad fitsWidth floorBy lowest digit digitsBelow anyBelow lowDigits formatCheck wordCheck narrowerCheck answerCheck plainCheck plainFitted roundBitCheck roundBitFitted signChangeWord cutBy restWord evenRoundBit widenWord sumWord magnitudeProduct multiplied productWord toPlainWord fromPlainWord
+unfolding firstBad fitsWidth floorBy lowest digit digitsBelow anyBelow lowDigits formatCheck wordCheck narrowerCheck answerCheck plainCheck plainFitted
+    roundBitCheck roundBitFitted signChangeWord cutBy restWord evenRoundBit widenWord sumWord magnitudeProduct multiplied productWord toPlainWord fromPlainWord
 all-wrong = refl

@@ -1,9 +1,19 @@
 -- Document 01, "Round-bit words": sign change, cut, rest of a cut, even cut, widening on the right.
-use Rattle.integers.specs.Names.{ℕ, zero, suc, _-_, _*_, _^_, bitAnd, bitOr, ℤ, pos, _+ℤ_, _*ℤ_, turned, floorBy, digit, anyBelow, lowDigits}
-use Rattle.words.specs.{declared.{Outcome.Outcome, RoundBit.RoundBit, RoundBitWord.RoundBitWord, RoundBitAnswer.RoundBitAnswer}, Refusals._orElse_, Formats.{narrower, narrowerCheck, wider, answerCheck}, RoundBit.{roundBitWord, roundBitCheck, roundBitDone, _andThen_}}
-use Rattle.round_bit.specs.declared.{CutAnswer.CutAnswer, EvenCutAnswer.EvenCutAnswer}
+use Rattle.integers.specs.Names.{ℕ, zero, suc, _-_, _*_, _^_, bitAnd, bitOr, ℤ, pos, _+ℤ_, _*ℤ_}
+use Rattle.integers.specs.Names.{turned, floorBy, digit, anyBelow, lowDigits}
+use Rattle.words.specs.declared.Outcome.{Outcome}
+use Rattle.words.specs.declared.RoundBit.{RoundBit}
+use Rattle.words.specs.declared.RoundBitWord.{RoundBitWord}
+use Rattle.words.specs.declared.RoundBitAnswer.{RoundBitAnswer}
+use Rattle.words.specs.Refusals.{_orElse_}
+use Rattle.words.specs.Formats.{narrower, narrowerCheck, wider, answerCheck}
+use Rattle.words.specs.RoundBit.{roundBitWord, roundBitCheck, roundBitDone, _andThen_}
+use Rattle.round_bit.specs.declared.CutAnswer.{CutAnswer}
+use Rattle.round_bit.specs.declared.EvenCutAnswer.{EvenCutAnswer}
+use Rattle.round_bit.specs.declared.CutAndRestAnswer.{CutAndRestAnswer}
 
-abbrev pub signChanged : RoundBit → RoundBit  -- "Sign change: (-1-a, 1-r)."
+-- "Sign change: (-1-a, 1-r)."
+abbrev pub signChanged : RoundBit → RoundBit
 signChanged n = record { 0 = turned (n .0); 1 = 1 - n .1 }
 
 unfoldable pub signChangeWord : RoundBitWord → RoundBitWord
@@ -12,33 +22,54 @@ signChangeWord w = record { number = signChanged (w .number); format = w .format
 abbrev pub signChangeOf : RoundBitWord → RoundBitAnswer
 signChangeOf w = roundBitCheck w andThen roundBitDone (signChangeWord w)
 
-unfoldable pub cutBy : (ℤ → ℕ → ℕ) → RoundBitWord → ℕ → RoundBitWord  -- "For d >= 1 the answer is (floor(a / 2^d), ..), width n-d, unit e+d. The old round bit is dropped."
-cutBy rule w zero = w  -- "d = 0 returns the word."
-cutBy rule w (suc k) = roundBitWord (floorBy (w .number .0) (suc k)) (rule (w .number .0) k) (narrower (w .format) (suc k))
+-- "For d >= 1 the answer is (floor(a / 2^d), ..), width n-d, unit e+d. The old round bit is
+-- dropped."
+unfoldable pub cutBy : (ℤ → ℕ → ℕ) → RoundBitWord → ℕ → RoundBitWord
+-- "d = 0 returns the word."
+cutBy rule w zero = w
+cutBy rule w (suc k) =
+    roundBitWord (floorBy (w .number .0) (suc k)) (rule (w .number .0) k) (narrower (w .format) (suc k))
 
-abbrev pub cutWord : RoundBitWord → ℕ → RoundBitWord  -- "Cut by d": the new round bit is "digit d-1 of a"
+-- "Cut by d": the new round bit is "digit d-1 of a"
+abbrev pub cutWord : RoundBitWord → ℕ → RoundBitWord
 cutWord w d = cutBy digit w d
 
-abbrev pub cutCheck : RoundBitWord → ℕ → Outcome  -- 1, 2, 3, then 5, then 7
+-- 1, 2, 3, then 5, then 7
+abbrev pub cutCheck : RoundBitWord → ℕ → Outcome
 cutCheck w d = roundBitCheck w orElse narrowerCheck (w .format) d
 
-abbrev pub cutAnswer : RoundBitAnswer → CutAnswer  -- the answer of a cut, and of an even cut, has what any answer has
+-- the answer of a cut, and of an even cut, has what any answer has
+abbrev pub cutAnswer : RoundBitAnswer → CutAnswer
 cutAnswer a = record { outcome = a .outcome; word = a .word }
 
 abbrev pub cutOf : RoundBitWord → ℕ → CutAnswer
 cutOf w d = cutAnswer (cutCheck w d andThen roundBitDone (cutWord w d))
 
-unfoldable pub restWord : RoundBitWord → ℕ → RoundBitWord  -- "Rest of a cut, ..: a round-bit word of the old width and unit."
-restWord w zero = roundBitWord (pos 0) 0 (w .format)  -- "For d = 0 it is (0,0)."
-restWord w (suc k) = roundBitWord (lowDigits (w .number .0) (suc k)) (w .number .1) (w .format)  -- "the low d digits read as two's complement, its round bit the old r."
+-- "Rest of a cut, ..: a round-bit word of the old width and unit."
+unfoldable pub restWord : RoundBitWord → ℕ → RoundBitWord
+-- "For d = 0 it is (0,0)."
+restWord w zero = roundBitWord (pos 0) 0 (w .format)
+-- "the low d digits read as two's complement, its round bit the old r."
+restWord w (suc k) = roundBitWord (lowDigits (w .number .0) (suc k)) (w .number .1) (w .format)
 
-abbrev pub restOf : RoundBitWord → ℕ → RoundBitAnswer  -- "refused as the cut is"
+-- "refused as the cut is"
+abbrev pub restOf : RoundBitWord → ℕ → RoundBitAnswer
 restOf w d = cutCheck w d andThen roundBitDone (restWord w d)
 
-unfoldable pub evenRoundBit : ℤ → ℕ → ℕ  -- "the new round bit is (T or b) and h, where h is digit d-1 of a, b is digit d, and T is 1 if any digit below d-1 is 1", for d = k + 1
+-- both in one answer: the cut refuses and its rest refuses as it does
+abbrev pub cutAndRestAnswer : RoundBitAnswer → RoundBitAnswer → CutAndRestAnswer
+cutAndRestAnswer a b = record { outcome = a .outcome; word = a .word; rest = b .word }
+
+abbrev pub cutAndRestOf : RoundBitWord → ℕ → CutAndRestAnswer
+cutAndRestOf w d = cutAndRestAnswer (cutCheck w d andThen roundBitDone (cutWord w d)) (restOf w d)
+
+-- "the new round bit is (T or b) and h, where h is digit d-1 of a, b is digit d, and T is 1 if any
+-- digit below d-1 is 1", for d = k + 1
+unfoldable pub evenRoundBit : ℤ → ℕ → ℕ
 evenRoundBit a k = bitAnd (bitOr (anyBelow a k) (digit a (suc k))) (digit a k)
 
-abbrev pub evenCutWord : RoundBitWord → ℕ → RoundBitWord  -- "Even cut by d: as the cut, except that for d >= 1" the new round bit is that
+-- "Even cut by d: as the cut, except that for d >= 1" the new round bit is that
+abbrev pub evenCutWord : RoundBitWord → ℕ → RoundBitWord
 evenCutWord w d = cutBy evenRoundBit w d
 
 abbrev pub evenCutAnswer : RoundBitAnswer → EvenCutAnswer
@@ -47,10 +78,14 @@ evenCutAnswer a = record { outcome = a .outcome; word = a .word }
 abbrev pub evenCutOf : RoundBitWord → ℕ → EvenCutAnswer
 evenCutOf w d = evenCutAnswer (cutCheck w d andThen roundBitDone (evenCutWord w d))
 
-unfoldable pub widenWord : RoundBitWord → ℕ → RoundBitWord  -- "Widen on the right by d: (a * 2^d + r * (2^d - 1), r), width n+d, unit e-d."
-widenWord w d = roundBitWord ((w .number .0 *ℤ pos (2 ^ d)) +ℤ pos (w .number .1 * (2 ^ d - 1))) (w .number .1) (wider (w .format) d)
+-- "Widen on the right by d: (a * 2^d + r * (2^d - 1), r), width n+d, unit e-d."
+unfoldable pub widenWord : RoundBitWord → ℕ → RoundBitWord
+widenWord w d =
+    roundBitWord ((w .number .0 *ℤ pos (2 ^ d)) +ℤ pos (w .number .1 * (2 ^ d - 1)))
+    (w .number .1) (wider (w .format) d)
 
-abbrev pub widenCheck : RoundBitWord → ℕ → Outcome  -- 1, 2, 3, then 6, then 7
+-- 1, 2, 3, then 6, then 7
+abbrev pub widenCheck : RoundBitWord → ℕ → Outcome
 widenCheck w d = roundBitCheck w orElse answerCheck (wider (w .format) d)
 
 abbrev pub widenOf : RoundBitWord → ℕ → RoundBitAnswer

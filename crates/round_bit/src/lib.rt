@@ -11,10 +11,10 @@ ghost use mathlib.Core.Path.{_≡_};
 ghost use Prim.Native.Nat.{_+_, _-_, _*_, _^_, _<_, _≤_};
 ghost use lib.IntN.{pos, _+ℤ_, _*ℤ_};
 ghost use lib.Signed.{mag, _≤ℤ_};
-ghost use Rattle.words.specs.Refusals.{formatCheck};
-ghost use Rattle.words.specs.Formats.{narrower, narrowerCheck, answerCheck, formatAnswer};
-ghost use Rattle.words.specs.RoundBit.{roundBitCheck};
-ghost use Rattle.round_bit.specs.Cuts.{signChanged, signChangeWord, signChangeOf, cutCheck, cutWord, cutAnswer, cutOf, restWord, restOf, evenRoundBit, evenCutWord, evenCutAnswer, evenCutOf, widenCheck, widenWord, widenOf};
+ghost use Rattle.words.specs.Refusals.{blankFormat};
+ghost use Rattle.words.specs.Formats.{narrower, wider, answerCheck, formatAnswer};
+ghost use Rattle.words.specs.RoundBit.{roundBitCheck, roundBitRefused, roundBitDone};
+ghost use Rattle.round_bit.specs.Cuts.{signChanged, signChangeWord, signChangeOf, cutCheck, cutWord, cutAnswer, cutOf, restWord, restOf, cutAndRestAnswer, cutAndRestOf, evenRoundBit, evenCutWord, evenCutAnswer, evenCutOf, widenCheck, widenWord, widenOf};
 ghost use Rattle.round_bit.specs.Arithmetic.{sumCheck, sumWord, sumOf, differenceOf, magnitudeProduct, signChangedIf, multiplied, productFormat, productCheck, productWord, productOf, toPlainWord, toPlainOf, fromPlainWord, fromPlainOf};
 use words::Cause;
 use words::Format;
@@ -37,6 +37,13 @@ pub struct CutAnswer {
 pub struct EvenCutAnswer {
     pub outcome: Outcome,
     pub word: RoundBitWord,
+}
+
+// The answer of a cut and its rest.
+pub struct CutAndRestAnswer {
+    pub outcome: Outcome,
+    pub word: RoundBitWord,
+    pub rest: RoundBitWord,
 }
 
 // Sign change: (-1-a, 1-r).
@@ -68,53 +75,67 @@ pub fn sign_change(w: RoundBitWord) -> RoundBitAnswer
     }
 }
 
-// Cut by d: the floor, and the highest digit that goes as the round bit.
-fn cut_check(w: RoundBitWord, d: u64) -> Outcome
-    ensures { λ r. ⌜ r ≡ cutCheck w d ⌝ }
+// A refusal in place of a format.
+fn format_refused(c: Cause) -> FormatAnswer
+    ensures { λ r. ⌜ r ≡ formatAnswer (Outcome.Refused c) blankFormat ⌝ }
 {
-    match words::round_bit_check(w) {
-        Outcome::Refused(c) => Outcome::Refused(c),
-        Outcome::Done => {
-            let a = words::narrower(w.format, d);
-            a.outcome
-        }
+    let a = words::round_bit_refused(c);
+    let f = a.word.format;
+    FormatAnswer {
+        outcome: Outcome::Refused(c),
+        format: f,
     }
 }
 
-// The format of a cut that was not refused.
-fn narrowed(f: Format, d: u64) -> Format
-    requires { ⌜ (formatCheck f ≡ Outcome.Done) × (narrowerCheck f d ≡ Outcome.Done) ⌝ }
-    ensures { λ r. ⌜ r ≡ narrower f d ⌝ }
+// Cut by d: the floor, and the highest digit that goes as the round bit. Its check finds its format.
+fn cut_format(w: RoundBitWord, d: u64) -> FormatAnswer
+    ensures { λ r. ⌜ r ≡ formatAnswer (cutCheck w d) (narrower (w .format) d) ⌝ }
 {
-    Format {
-        width: f.width - (d as u32),
-        unit: f.unit + (d as i32),
+    if let Outcome::Refused(c) = words::round_bit_check(w) {
+        format_refused(c)
+    } else {
+        words::narrower(w.format, d)
     }
 }
 
-fn cut_word(w: RoundBitWord, d: u64) -> RoundBitWord
-    requires { ⌜ cutCheck w d ≡ Outcome.Done ⌝ }
-    ensures { λ r. ⌜ r ≡ cutWord w d ⌝ }
+fn cut_round_bit(w: RoundBitWord, d: u64) -> u8
+    ensures { λ r. ⌜ r ≡ cutWord w d .number .1 ⌝ }
 {
     if d == 0 {
-        return w;
+        w.number.1
+    } else {
+        integers::digit(w.number.0, d - 1)
     }
-    let f = narrowed(w.format, d);
+}
+
+fn cut_word(w: RoundBitWord, d: u64, f: Format) -> RoundBitWord
+    requires { ⌜ f ≡ narrower (w .format) d ⌝ }
+    ensures { λ r. ⌜ r ≡ cutWord w d ⌝ }
+{
     let floor = integers::floor_by(w.number.0, d);
-    let high = integers::digit(w.number.0, d - 1);
+    let high = cut_round_bit(w, d);
     RoundBitWord {
         number: RoundBit(floor, high),
         format: f,
     }
 }
 
-fn cut_answer(a: RoundBitAnswer) -> CutAnswer
-    ensures { λ r. ⌜ r ≡ cutAnswer a ⌝ }
+fn cut_refused(c: Cause) -> CutAnswer
+    ensures { λ r. ⌜ r ≡ cutAnswer (roundBitRefused c) ⌝ }
 {
-    let o = a.outcome;
-    let w = a.word;
+    let a = words::round_bit_refused(c);
+    let blank = a.word;
     CutAnswer {
-        outcome: o,
+        outcome: Outcome::Refused(c),
+        word: blank,
+    }
+}
+
+fn cut_done(w: RoundBitWord) -> CutAnswer
+    ensures { λ r. ⌜ r ≡ cutAnswer (roundBitDone w) ⌝ }
+{
+    CutAnswer {
+        outcome: Outcome::Done,
         word: w,
     }
 }
@@ -122,26 +143,29 @@ fn cut_answer(a: RoundBitAnswer) -> CutAnswer
 pub fn cut(w: RoundBitWord, d: u64) -> CutAnswer
     ensures { λ r. ⌜ r ≡ cutOf w d ⌝ }
 {
-    match cut_check(w, d) {
-        Outcome::Refused(c) => cut_answer(words::round_bit_refused(c)),
-        Outcome::Done => cut_answer(words::round_bit_done(cut_word(w, d))),
+    let a = cut_format(w, d);
+    let o = a.outcome;
+    match o {
+        Outcome::Refused(c) => cut_refused(c),
+        Outcome::Done => cut_done(cut_word(w, d, a.format)),
     }
 }
 
 // Rest of a cut: the low digits, and the old round bit, which the cut dropped.
+fn rest_round_bit(w: RoundBitWord, d: u64) -> u8
+    ensures { λ r. ⌜ r ≡ restWord w d .number .1 ⌝ }
+{
+    if d == 0 { 0 } else { w.number.1 }
+}
+
 fn rest_word(w: RoundBitWord, d: u64) -> RoundBitWord
     ensures { λ r. ⌜ r ≡ restWord w d ⌝ }
 {
     let f = w.format;
     let number = integers::low_digits(w.number.0, d);
-    if d == 0 {
-        return RoundBitWord {
-            number: RoundBit(number, 0),
-            format: f,
-        };
-    }
+    let dropped = rest_round_bit(w, d);
     RoundBitWord {
-        number: RoundBit(number, w.number.1),
+        number: RoundBit(number, dropped),
         format: f,
     }
 }
@@ -149,15 +173,51 @@ fn rest_word(w: RoundBitWord, d: u64) -> RoundBitWord
 pub fn rest(w: RoundBitWord, d: u64) -> RoundBitAnswer
     ensures { λ r. ⌜ r ≡ restOf w d ⌝ }
 {
-    match cut_check(w, d) {
+    let a = cut_format(w, d);
+    let o = a.outcome;
+    match o {
         Outcome::Refused(c) => words::round_bit_refused(c),
         Outcome::Done => words::round_bit_done(rest_word(w, d)),
     }
 }
 
+fn cut_and_rest_refused(c: Cause) -> CutAndRestAnswer
+    ensures { λ r. ⌜ r ≡ cutAndRestAnswer (roundBitRefused c) (roundBitRefused c) ⌝ }
+{
+    let a = words::round_bit_refused(c);
+    let blank = a.word;
+    CutAndRestAnswer {
+        outcome: Outcome::Refused(c),
+        word: blank,
+        rest: blank,
+    }
+}
+
+fn cut_and_rest_done(w: RoundBitWord, rest: RoundBitWord) -> CutAndRestAnswer
+    ensures { λ r. ⌜ r ≡ cutAndRestAnswer (roundBitDone w) (roundBitDone rest) ⌝ }
+{
+    CutAndRestAnswer {
+        outcome: Outcome::Done,
+        word: w,
+        rest: rest,
+    }
+}
+
+// A cut and its rest, which together lose nothing.
+pub fn cut_and_rest(w: RoundBitWord, d: u64) -> CutAndRestAnswer
+    ensures { λ r. ⌜ r ≡ cutAndRestOf w d ⌝ }
+{
+    let a = cut_format(w, d);
+    let o = a.outcome;
+    match o {
+        Outcome::Refused(c) => cut_and_rest_refused(c),
+        Outcome::Done => cut_and_rest_done(cut_word(w, d, a.format), rest_word(w, d)),
+    }
+}
+
 // Even cut: as the cut, but a tie goes to the even neighbour. The rule stands here alone.
 fn even_round_bit(a: i64, k: u64) -> u8
-    requires { ⌜ k < 2 ^ 63 ⌝ }
+    requires { ⌜ k + 1 < 2 ^ 64 ⌝ }
     ensures { λ r. ⌜ r ≡ evenRoundBit a k ⌝ }
 {
     let below = integers::any_below(a, k);
@@ -166,29 +226,44 @@ fn even_round_bit(a: i64, k: u64) -> u8
     (below | next) & high
 }
 
-fn even_cut_word(w: RoundBitWord, d: u64) -> RoundBitWord
-    requires { ⌜ cutCheck w d ≡ Outcome.Done ⌝ }
-    ensures { λ r. ⌜ r ≡ evenCutWord w d ⌝ }
+fn even_cut_round_bit(w: RoundBitWord, d: u64) -> u8
+    ensures { λ r. ⌜ r ≡ evenCutWord w d .number .1 ⌝ }
 {
     if d == 0 {
-        return w;
+        w.number.1
+    } else {
+        even_round_bit(w.number.0, d - 1)
     }
-    let f = narrowed(w.format, d);
+}
+
+fn even_cut_word(w: RoundBitWord, d: u64, f: Format) -> RoundBitWord
+    requires { ⌜ f ≡ narrower (w .format) d ⌝ }
+    ensures { λ r. ⌜ r ≡ evenCutWord w d ⌝ }
+{
     let number = integers::floor_by(w.number.0, d);
-    let even = even_round_bit(w.number.0, d - 1);
+    let even = even_cut_round_bit(w, d);
     RoundBitWord {
         number: RoundBit(number, even),
         format: f,
     }
 }
 
-fn even_cut_answer(a: RoundBitAnswer) -> EvenCutAnswer
-    ensures { λ r. ⌜ r ≡ evenCutAnswer a ⌝ }
+fn even_cut_refused(c: Cause) -> EvenCutAnswer
+    ensures { λ r. ⌜ r ≡ evenCutAnswer (roundBitRefused c) ⌝ }
 {
-    let o = a.outcome;
-    let w = a.word;
+    let a = words::round_bit_refused(c);
+    let blank = a.word;
     EvenCutAnswer {
-        outcome: o,
+        outcome: Outcome::Refused(c),
+        word: blank,
+    }
+}
+
+fn even_cut_done(w: RoundBitWord) -> EvenCutAnswer
+    ensures { λ r. ⌜ r ≡ evenCutAnswer (roundBitDone w) ⌝ }
+{
+    EvenCutAnswer {
+        outcome: Outcome::Done,
         word: w,
     }
 }
@@ -196,22 +271,22 @@ fn even_cut_answer(a: RoundBitAnswer) -> EvenCutAnswer
 pub fn even_cut(w: RoundBitWord, d: u64) -> EvenCutAnswer
     ensures { λ r. ⌜ r ≡ evenCutOf w d ⌝ }
 {
-    match cut_check(w, d) {
-        Outcome::Refused(c) => even_cut_answer(words::round_bit_refused(c)),
-        Outcome::Done => even_cut_answer(words::round_bit_done(even_cut_word(w, d))),
+    let a = cut_format(w, d);
+    let o = a.outcome;
+    match o {
+        Outcome::Refused(c) => even_cut_refused(c),
+        Outcome::Done => even_cut_done(even_cut_word(w, d, a.format)),
     }
 }
 
 // Widen on the right by d: zero digits are appended in the signed-digit reading.
-fn widen_check(w: RoundBitWord, d: u64) -> Outcome
-    ensures { λ r. ⌜ r ≡ widenCheck w d ⌝ }
+fn widen_format(w: RoundBitWord, d: u64) -> FormatAnswer
+    ensures { λ r. ⌜ r ≡ formatAnswer (widenCheck w d) (wider (w .format) d) ⌝ }
 {
-    match words::round_bit_check(w) {
-        Outcome::Refused(c) => Outcome::Refused(c),
-        Outcome::Done => {
-            let a = words::wider(w.format, d);
-            a.outcome
-        }
+    if let Outcome::Refused(c) = words::round_bit_check(w) {
+        format_refused(c)
+    } else {
+        words::wider(w.format, d)
     }
 }
 
@@ -224,12 +299,10 @@ fn widened(n: RoundBit, d: u64) -> i64
     ((n.0 + r) << d) - r
 }
 
-fn widen_word(w: RoundBitWord, d: u64) -> RoundBitWord
-    requires { ⌜ widenCheck w d ≡ Outcome.Done ⌝ }
+fn widen_word(w: RoundBitWord, d: u64, f: Format) -> RoundBitWord
+    requires { ⌜ (widenCheck w d ≡ Outcome.Done) × (f ≡ wider (w .format) d) ⌝ }
     ensures { λ r. ⌜ r ≡ widenWord w d ⌝ }
 {
-    let a = words::wider(w.format, d);
-    let f = a.format;
     RoundBitWord {
         number: RoundBit(widened(w.number, d), w.number.1),
         format: f,
@@ -239,9 +312,11 @@ fn widen_word(w: RoundBitWord, d: u64) -> RoundBitWord
 pub fn widen(w: RoundBitWord, d: u64) -> RoundBitAnswer
     ensures { λ r. ⌜ r ≡ widenOf w d ⌝ }
 {
-    match widen_check(w, d) {
+    let a = widen_format(w, d);
+    let o = a.outcome;
+    match o {
         Outcome::Refused(c) => words::round_bit_refused(c),
-        Outcome::Done => words::round_bit_done(widen_word(w, d)),
+        Outcome::Done => words::round_bit_done(widen_word(w, d, a.format)),
     }
 }
 
@@ -249,12 +324,12 @@ pub fn widen(w: RoundBitWord, d: u64) -> RoundBitAnswer
 fn sum_check(x: RoundBitWord, y: RoundBitWord) -> Outcome
     ensures { λ r. ⌜ r ≡ sumCheck x y ⌝ }
 {
-    match words::round_bit_check(x) {
-        Outcome::Refused(c) => Outcome::Refused(c),
-        Outcome::Done => match words::round_bit_check(y) {
-            Outcome::Refused(c) => Outcome::Refused(c),
-            Outcome::Done => words::refuse(Cause::Mismatch, words::differ(x.format, y.format)),
-        },
+    if let Outcome::Refused(c) = words::round_bit_check(x) {
+        Outcome::Refused(c)
+    } else if let Outcome::Refused(c) = words::round_bit_check(y) {
+        Outcome::Refused(c)
+    } else {
+        words::refuse(Cause::Mismatch, words::differ(x.format, y.format))
     }
 }
 
@@ -327,7 +402,7 @@ fn multiplied(m: RoundBit, n: RoundBit) -> RoundBit
     sign_changed_if(p ^ q, z)
 }
 
-fn product_format(f: Format, g: Format) -> FormatAnswer
+fn formats_multiplied(f: Format, g: Format) -> FormatAnswer
     requires { ⌜ 2 ≤ f .width ⌝ }
     ensures { λ r. ⌜ r ≡ formatAnswer (answerCheck (productFormat f g)) (productFormat f g) ⌝ }
 {
@@ -337,27 +412,22 @@ fn product_format(f: Format, g: Format) -> FormatAnswer
     )
 }
 
-fn product_check(x: RoundBitWord, y: RoundBitWord) -> Outcome
-    ensures { λ r. ⌜ r ≡ productCheck x y ⌝ }
+fn product_format(x: RoundBitWord, y: RoundBitWord) -> FormatAnswer
+    ensures { λ r. ⌜ r ≡ formatAnswer (productCheck x y) (productFormat (x .format) (y .format)) ⌝ }
 {
-    match words::round_bit_check(x) {
-        Outcome::Refused(c) => Outcome::Refused(c),
-        Outcome::Done => match words::round_bit_check(y) {
-            Outcome::Refused(c) => Outcome::Refused(c),
-            Outcome::Done => {
-                let a = product_format(x.format, y.format);
-                a.outcome
-            }
-        },
+    if let Outcome::Refused(c) = words::round_bit_check(x) {
+        format_refused(c)
+    } else if let Outcome::Refused(c) = words::round_bit_check(y) {
+        format_refused(c)
+    } else {
+        formats_multiplied(x.format, y.format)
     }
 }
 
-fn product_word(x: RoundBitWord, y: RoundBitWord) -> RoundBitWord
-    requires { ⌜ productCheck x y ≡ Outcome.Done ⌝ }
+fn product_word(x: RoundBitWord, y: RoundBitWord, f: Format) -> RoundBitWord
+    requires { ⌜ (productCheck x y ≡ Outcome.Done) × (f ≡ productFormat (x .format) (y .format)) ⌝ }
     ensures { λ r. ⌜ r ≡ productWord x y ⌝ }
 {
-    let a = product_format(x.format, y.format);
-    let f = a.format;
     let n = multiplied(x.number, y.number);
     RoundBitWord {
         number: n,
@@ -368,9 +438,11 @@ fn product_word(x: RoundBitWord, y: RoundBitWord) -> RoundBitWord
 pub fn product(x: RoundBitWord, y: RoundBitWord) -> RoundBitAnswer
     ensures { λ r. ⌜ r ≡ productOf x y ⌝ }
 {
-    match product_check(x, y) {
+    let a = product_format(x, y);
+    let o = a.outcome;
+    match o {
         Outcome::Refused(c) => words::round_bit_refused(c),
-        Outcome::Done => words::round_bit_done(product_word(x, y)),
+        Outcome::Done => words::round_bit_done(product_word(x, y, a.format)),
     }
 }
 

@@ -12,7 +12,11 @@ use Rattle.words.specs.declared.Cause.the-variants.{Depth}
 use Rattle.words.specs.declared.Outcome.the-variants.{Done, Refused}
 use Rattle.words.specs.declared.Format.{Format}
 use Rattle.words.proofs.Laws.{refused-not-done}
-use Rattle.running_sum.specs.Steps.{depthCheck}
+use Rattle.round_bit.specs.Cuts.{cutAndRestOf}
+use Rattle.round_bit.specs.declared.CutAndRestAnswer.{CutAndRestAnswer}
+use Rattle.round_bit.proofs.Checks.{word-outcome}
+use Rattle.running_sum.specs.declared.RunningSum.{RunningSum}
+use Rattle.running_sum.specs.Steps.{depthCheck, runningSumCheck}
 
 -- a depth that is not 0 passes where a cut by it does
 too-deep : (n d : ℕ) → (d ≡ 0 → ⊥) → ltb (n - 2) d ≡ ltb (n - d) 2
@@ -42,3 +46,7 @@ depth-passed f d e = go (eqb d 0) refl
     go : (b : Bool) → eqb d 0 ≡ b → narrowerCheck f d ≡ Done
     go true z = absurd (refused-not-done (depth-none f d Depth (rw z) ∙ e))
     go false z = sym (depth-some f d z) ∙ e
+
+-- and a hand-out of such a depth is refused where the cut is
+pub cut-told : (s : RunningSum) (a : CutAndRestAnswer) → eqb (s .depth) 0 ≡ false → a ≡ cutAndRestOf (s .kept) (s .depth) → runningSumCheck s ≡ a .outcome
+cut-told s a z e = rw (e, word-outcome, depth-some (s .kept .format) (s .depth) z)

@@ -21,17 +21,19 @@ use Rattle.round_bit.specs.Arithmetic.{sumOf}
 use Rattle.round_bit.proofs.Laws.Cuts.{cut-done, cut-format, rest-format, rest-done, rest-closed, rest-refuses, rest-value, rest-small}
 use Rattle.round_bit.proofs.Laws.Sums.{sum-format, sum-done, sum-closed, sum-value}
 use Rattle.running_sum.specs.declared.RunningSum.{RunningSum}
-use Rattle.running_sum.specs.Steps.{blank, nothing, depthCheck, Call, put, handOut, empty, Step, keeping, stepped, sumCheck, putCheck, stepOf}
+use Rattle.running_sum.specs.Steps.{blank, nothing, depthCheck, Call, put, handOut, empty, Step, keeping, stepped, runningSumCheck, putCheck, stepOf}
 use Rattle.running_sum.proofs.Checks.{depth-passed}
 use Rattle.running_sum.specs.Totals.{amount, takenIn, givenOut}
 
 -- ---- a step by its outcome: what holds of the done step if its check passed, and of every refusal, holds of it
-by-outcome : (Q : Step → Type 0) (o : Outcome) (w : RoundBitWord) (new old : RunningSum) → (o ≡ Done → Q (record { outcome = Done; word = w; sum = new })) → ((c : Cause) → Q (record { outcome = Refused c; word = blank; sum = old })) → Q (stepped o w new old)
+by-outcome : (Q : Step → Type 0) (o : Outcome) (w : RoundBitWord) (new old : RunningSum) → (o ≡ Done → Q (record { outcome = Done; word = w; sum = new })) →
+    ((c : Cause) → Q (record { outcome = Refused c; word = blank; sum = old })) → Q (stepped o w new old)
 unfolding stepped
 by-outcome Q Done w new old f g = f refl
 by-outcome Q (Refused c) w new old f g = g c
 
-refused-step : (o : Outcome) (w : RoundBitWord) (new old : RunningSum) (r : Cause) → stepped o w new old .outcome ≡ Refused r → (stepped o w new old .sum ≡ old) × (stepped o w new old .word ≡ blank)
+refused-step : (o : Outcome) (w : RoundBitWord) (new old : RunningSum) (r : Cause) → stepped o w new old .outcome ≡ Refused r →
+    (stepped o w new old .sum ≡ old) × (stepped o w new old .word ≡ blank)
 unfolding stepped
 refused-step Done w new old r e = absurd (refused-not-done (sym e))
 refused-step (Refused c) w new old r e = (refl, refl)
@@ -71,7 +73,8 @@ unfolding value
 nothing-value f = refl
 
 -- ---- what a done call tells
-put-tells : (s : RunningSum) (w : RoundBitWord) → (putCheck s w orElse sumOf (s .kept) w .outcome) ≡ Done → (sumOf (s .kept) w .outcome ≡ Done) × (s .kept .format ≡ w .format)
+put-tells : (s : RunningSum) (w : RoundBitWord) → (putCheck s w orElse sumOf (s .kept) w .outcome) ≡ Done →
+    (sumOf (s .kept) w .outcome ≡ Done) × (s .kept .format ≡ w .format)
 unfolding putCheck
 put-tells s w e =
     let p = both-passed (putCheck s w) (sumOf (s .kept) w .outcome) e in
@@ -79,7 +82,7 @@ put-tells s w e =
     let t = both-passed (refuseFor Mismatch (differ (s .kept .format) (w .format))) _ (q .2) in
     (p .1, same-format (s .kept .format) (w .format) (passed Mismatch _ (t .0)))
 
-pub sum-tells : (s : RunningSum) → sumCheck s ≡ Done → cutOf (s .kept) (s .depth) .outcome ≡ Done
+pub sum-tells : (s : RunningSum) → runningSumCheck s ≡ Done → cutOf (s .kept) (s .depth) .outcome ≡ Done
 sum-tells s e =
     let p = both-passed (roundBitCheck (s .kept)) (depthCheck (s .kept .format) (s .depth)) e in
     rw (p .0, depth-passed (s .kept .format) (s .depth) (p .1))
@@ -87,9 +90,12 @@ sum-tells s e =
 -- ---- 1. for one call: what was kept and what goes in is what comes out and what is kept then
 abbrev Balances : RunningSum → Call → Step → Type 0
 Balances s c t =
-    takenIn (s .kept .format .unit) c (t .outcome) +ℤ roundBitValue (s .kept) ≡ givenOut (s .kept .format .unit) c (t .outcome) (t .word) +ℤ roundBitValue (t .sum .kept)
+    let e = s .kept .format .unit in
+    takenIn e c (t .outcome) +ℤ roundBitValue (s .kept) ≡ givenOut e c (t .outcome) (t .word) +ℤ roundBitValue (t .sum .kept)
 
-pub step-conserves : (s : RunningSum) (c : Call) → let t = stepOf s c in takenIn (s .kept .format .unit) c (t .outcome) +ℤ roundBitValue (s .kept) ≡ givenOut (s .kept .format .unit) c (t .outcome) (t .word) +ℤ roundBitValue (t .sum .kept)
+pub step-conserves : (s : RunningSum) (c : Call) →
+    let t = stepOf s c in let e = s .kept .format .unit in
+    takenIn e c (t .outcome) +ℤ roundBitValue (s .kept) ≡ givenOut e c (t .outcome) (t .word) +ℤ roundBitValue (t .sum .kept)
 unfolding stepOf takenIn givenOut
 step-conserves s (put w) = by-outcome (Balances s (put w)) _ _ _ _ done (λ c. refl)
   where
@@ -110,18 +116,23 @@ step-conserves s handOut = by-outcome (Balances s handOut) _ _ _ _ done (λ c. r
     cut : RoundBitWord
     cut = cutOf (s .kept) d .word
 
-    done : sumCheck s ≡ Done → Balances s handOut (record { outcome = Done; word = cut; sum = keeping s (restOf (s .kept) d .word) })
+    done : runningSumCheck s ≡ Done → Balances s handOut (record { outcome = Done; word = cut; sum = keeping s (restOf (s .kept) d .word) })
     done e =
         let c = sum-tells s e in
-        let u = cut-done (s .kept) d c .1 in
-        rw (amount-coarse (s .kept .format .unit) cut d (ap (λ (w : RoundBitWord). w .format .unit) u ∙ ap (λ (f : Format). f .unit) (cut-format (s .kept) d)), +ℤ-idl (roundBitValue (s .kept)))
-        (sym (rest-value (s .kept) d c))
+        let u = ap (λ (w : RoundBitWord). w .format .unit) (cut-done (s .kept) d c .1) ∙ ap (λ (f : Format). f .unit) (cut-format (s .kept) d) in
+        rw (amount-coarse (s .kept .format .unit) cut d u, +ℤ-idl (roundBitValue (s .kept))) (sym (rest-value (s .kept) d c))
 step-conserves s empty =
-    by-outcome (Balances s empty) _ _ _ _ (λ e. rw (amount-own (s .kept .format .unit) (s .kept) refl, nothing-value (s .kept .format), +ℤ-idl, +ℤ-idr)) (λ c. refl)
+    let own = amount-own (s .kept .format .unit) (s .kept) refl in
+    by-outcome (Balances s empty) _ _ _ _ (λ e. rw (own, nothing-value (s .kept .format), +ℤ-idl, +ℤ-idr)) (λ c. refl)
 
 -- format and depth never change
 abbrev Unchanged : RunningSum → Step → Type 0
 Unchanged s t = (t .sum .kept .format ≡ s .kept .format) × (t .sum .depth ≡ s .depth)
+
+rest-same : (s : RunningSum) → runningSumCheck s ≡ Done → restOf (s .kept) (s .depth) .word .format ≡ s .kept .format
+rest-same s e =
+    let c = rest-refuses (s .kept) (s .depth) ∙ sum-tells s e in
+    ap (λ (w : RoundBitWord). w .format) (rest-done (s .kept) (s .depth) c .1) ∙ rest-format (s .kept) (s .depth)
 
 pub step-format : (s : RunningSum) (c : Call) → (stepOf s c .sum .kept .format ≡ s .kept .format) × (stepOf s c .sum .depth ≡ s .depth)
 unfolding stepOf
@@ -130,9 +141,7 @@ step-format s (put w) =
     (λ e. (ap (λ (a : RoundBitAnswer). a .word .format) (sum-done (s .kept) w (put-tells s w e .0)) ∙ sum-format (s .kept) w, refl))
     (λ c. (refl, refl))
 step-format s handOut =
-    by-outcome (Unchanged s) _ _ _ _
-    (λ e. (ap (λ (w : RoundBitWord). w .format) (rest-done (s .kept) (s .depth) (rest-refuses (s .kept) (s .depth) ∙ sum-tells s e) .1) ∙ rest-format (s .kept) (s .depth), refl))
-    (λ c. (refl, refl))
+    by-outcome (Unchanged s) _ _ _ _ (λ e. (rest-same s e, refl)) (λ c. (refl, refl))
 step-format s empty = by-outcome (Unchanged s) _ _ _ _ (λ e. (refl, refl)) (λ c. (refl, refl))
 
 -- a put hands back no word
@@ -162,7 +171,7 @@ kept-right s handOut k =
 kept-right s empty k =
     by-outcome Kept _ _ _ _ (λ e. round-bit-passes (nothing (s .kept .format)) (nothing-right (round-bit-right (s .kept) k .format))) (λ c. k)
 
-pub step-keeps : (s : RunningSum) (c : Call) → sumCheck s ≡ Done → sumCheck (stepOf s c .sum) ≡ Done
+pub step-keeps : (s : RunningSum) (c : Call) → runningSumCheck s ≡ Done → runningSumCheck (stepOf s c .sum) ≡ Done
 step-keeps s c e =
     let p = both-passed (roundBitCheck (s .kept)) (depthCheck (s .kept .format) (s .depth)) e in
     let f = step-format s c in

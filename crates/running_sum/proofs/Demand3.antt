@@ -17,7 +17,7 @@ use Rattle.words.specs.declared.Outcome.the-variants.{Done, Refused}
 use Rattle.words.proofs.Laws.{both-passed, right-format, round-bit-passes}
 use Rattle.words.proofs.Rights.{nothing-right}
 use Rattle.running_sum.specs.declared.RunningSum.{RunningSum}
-use Rattle.running_sum.specs.Steps.{nothing, depthCheck, openCheck, openAnswer, openOf, Call, handOut, empty, sumCheck, stepOf}
+use Rattle.running_sum.specs.Steps.{nothing, depthCheck, openCheck, openAnswer, openOf, Call, handOut, empty, runningSumCheck, stepOf}
 use Rattle.running_sum.specs.Totals.{takenIn, givenOut, accepted, handedOut, answered, left}
 use Rattle.running_sum.specs.Demand3.{Demand3}
 use Rattle.running_sum.proofs.Conserved.{step-conserves, step-format, step-keeps, hand-out-small, empty-nothing, shut-step, shut}
@@ -37,13 +37,16 @@ regroup t a v g w h l p q =
       plus-law g h,
     )
 
-conserved : (e : ℤ) (s : RunningSum) (cs : List Call) → s .kept .format .unit ≡ e → accepted e (answered s cs) +ℤ roundBitValue (s .kept) ≡ handedOut e (answered s cs) +ℤ roundBitValue (left s cs .kept)
+conserved : (e : ℤ) (s : RunningSum) (cs : List Call) → s .kept .format .unit ≡ e →
+    accepted e (answered s cs) +ℤ roundBitValue (s .kept) ≡ handedOut e (answered s cs) +ℤ roundBitValue (left s cs .kept)
 unfolding accepted handedOut answered left
 conserved e s [] h = refl
 conserved e s (c ∷ cs) h =
     let t = stepOf s c in
-    regroup (takenIn e c (t .outcome)) (accepted e (answered (t .sum) cs)) (roundBitValue (s .kept)) (givenOut e c (t .outcome) (t .word)) (roundBitValue (t .sum .kept)) (handedOut e (answered (t .sum) cs)) (roundBitValue (left (t .sum) cs .kept))
-    (subst (λ (u : ℤ). takenIn u c (t .outcome) +ℤ roundBitValue (s .kept) ≡ givenOut u c (t .outcome) (t .word) +ℤ roundBitValue (t .sum .kept)) h (step-conserves s c))
+    regroup (takenIn e c (t .outcome)) (accepted e (answered (t .sum) cs)) (roundBitValue (s .kept)) (givenOut e c (t .outcome) (t .word))
+    (roundBitValue (t .sum .kept)) (handedOut e (answered (t .sum) cs)) (roundBitValue (left (t .sum) cs .kept))
+    (subst (λ (u : ℤ). takenIn u c (t .outcome) +ℤ roundBitValue (s .kept) ≡ givenOut u c (t .outcome) (t .word) +ℤ roundBitValue (t .sum .kept)) h
+    (step-conserves s c))
     (conserved e (t .sum) cs (ap (λ (f : Format). f .unit) (step-format s c .0) ∙ h))
 
 left-format : (s : RunningSum) (cs : List Call) → (left s cs .kept .format ≡ s .kept .format) × (left s cs .depth ≡ s .depth)
@@ -59,7 +62,7 @@ unfolding left
 left-more s [] c = refl
 left-more s (b ∷ cs) c = left-more (stepOf s b .sum) cs c
 
-left-keeps : (s : RunningSum) (cs : List Call) → sumCheck s ≡ Done → sumCheck (left s cs) ≡ Done
+left-keeps : (s : RunningSum) (cs : List Call) → runningSumCheck s ≡ Done → runningSumCheck (left s cs) ≡ Done
 unfolding left
 left-keeps s [] e = e
 left-keeps s (c ∷ cs) e = left-keeps (stepOf s c .sum) cs (step-keeps s c e)
@@ -75,7 +78,7 @@ unfolding openAnswer value
 opened-value Done f d = refl
 opened-value (Refused c) f d = refl
 
-opened-passes : (f : Format) (d : ℕ) → openCheck f d ≡ Done → sumCheck (openAnswer Done f d .sum) ≡ Done
+opened-passes : (f : Format) (d : ℕ) → openCheck f d ≡ Done → runningSumCheck (openAnswer Done f d .sum) ≡ Done
 unfolding openAnswer
 opened-passes f d e =
     let p = both-passed (formatCheck f) (depthCheck f d) e in
@@ -112,11 +115,11 @@ module _ (n : ℕ) (e : ℤ) (d : ℕ) (cs : List Call) where
   unchanged = left-format opened cs
 
   -- after a done opening no call is refused by 1, 2, 3 of what is kept, nor by 5 or 7
-  pub never-refused : openOf n e d .outcome ≡ Done → sumCheck (left opened cs) ≡ Done
+  pub never-refused : openOf n e d .outcome ≡ Done → runningSumCheck (left opened cs) ≡ Done
   unfolding openOf
   never-refused o =
       let c = sym (opened-outcome (openCheck (format n e) d) (format n e) d) ∙ o in
-      left-keeps opened cs (subst (λ (o : Outcome). sumCheck (openAnswer o (format n e) d .sum) ≡ Done) (sym c) (opened-passes (format n e) d c))
+      left-keeps opened cs (subst (λ (o : Outcome). runningSumCheck (openAnswer o (format n e) d .sum) ≡ Done) (sym c) (opened-passes (format n e) d c))
 
   -- after a refused one every call is refused, and the sum stays the blank one
   pub always-refused : (c : Call) → (openOf n e d .outcome ≡ Done → ⊥) → (stepOf (left opened cs) c .outcome ≡ Done → ⊥) × (left opened cs ≡ shut)
@@ -144,7 +147,8 @@ module _ (n : ℕ) (e : ℤ) (d : ℕ) (cs : List Call) (h : stepOf (left (opene
       rw same kept-small
 
 -- 3. right after a done emptying the two totals are equal
-pub totals-equal : (n : ℕ) (e : ℤ) (d : ℕ) (cs : List Call) → stepOf (left (opened n e d cs) cs) empty .outcome ≡ Done → accepted (unit n e d cs) (answered (opened n e d cs) (cs ++ empty ∷ [])) ≡ handedOut (unit n e d cs) (answered (opened n e d cs) (cs ++ empty ∷ []))
+pub totals-equal : (n : ℕ) (e : ℤ) (d : ℕ) (cs : List Call) → stepOf (left (opened n e d cs) cs) empty .outcome ≡ Done →
+    accepted (unit n e d cs) (answered (opened n e d cs) (cs ++ empty ∷ [])) ≡ handedOut (unit n e d cs) (answered (opened n e d cs) (cs ++ empty ∷ []))
 totals-equal n e d cs h =
     let s = opened n e d cs in
     totals n e d (cs ++ empty ∷ [])

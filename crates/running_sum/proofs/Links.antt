@@ -16,7 +16,7 @@ use Rattle.running_sum.specs.declared.OpenAnswer.{OpenAnswer}
 use Rattle.running_sum.specs.declared.PutAnswer.{PutAnswer}
 use Rattle.running_sum.specs.declared.HandOutAnswer.{HandOutAnswer}
 use Rattle.running_sum.specs.declared.EmptyAnswer.{EmptyAnswer}
-use Rattle.running_sum.specs.Steps.{Call, put, handOut, empty, blank, sumCheck, stepOf, openOf}
+use Rattle.running_sum.specs.Steps.{Call, put, handOut, empty, blank, runningSumCheck, stepOf, openOf}
 use Rattle.running_sum.specs.Totals.{Answered, accepted, handedOut, answered, left}
 use Rattle.running_sum.proofs.open.Reads as open-method
 use Rattle.running_sum.proofs.RunningSum.put.Reads as put-method
@@ -37,7 +37,8 @@ pub data Links : RunningSum → List Answered → RunningSum → Type 0 where
   link : {s t u : RunningSum} {a : Answered} {more : List Answered} → Meets s (a .call) (a .outcome) (a .word) t → Links t more u → Links s (a ∷ more) u
 
 -- a link is the definition's step
-pub meets-step : (s : RunningSum) (c : Call) (o : Outcome) (v : RoundBitWord) (t : RunningSum) → Meets s c o v t → (o ≡ stepOf s c .outcome) × (v ≡ stepOf s c .word) × (t ≡ stepOf s c .sum)
+pub meets-step : (s : RunningSum) (c : Call) (o : Outcome) (v : RoundBitWord) (t : RunningSum) → Meets s c o v t →
+    (o ≡ stepOf s c .outcome) × (v ≡ stepOf s c .word) × (t ≡ stepOf s c .sum)
 meets-step s (put w) o v t m = (ap (λ (a : PutAnswer). a .outcome) (m .0), m .1 ∙ sym (put-blank s w), ap (λ (a : PutAnswer). a .sum) (m .0))
 meets-step s handOut o v t m = (ap (λ (a : HandOutAnswer). a .outcome) m, ap (λ (a : HandOutAnswer). a .word) m, ap (λ (a : HandOutAnswer). a .sum) m)
 meets-step s empty o v t m = (ap (λ (a : EmptyAnswer). a .outcome) m, ap (λ (a : EmptyAnswer). a .word) m, ap (λ (a : EmptyAnswer). a .sum) m)
@@ -59,7 +60,8 @@ links-run (link {s = s} {t = t} {u = u} {a = a} {more = more} m l) =
     )
 
 -- one link more
-links-more : {s t u : RunningSum} {done : List Answered} (a : Answered) → Links s done t → Meets t (a .call) (a .outcome) (a .word) u → Links s (done ++ a ∷ []) u
+links-more : {s t u : RunningSum} {done : List Answered} (a : Answered) → Links s done t → Meets t (a .call) (a .outcome) (a .word) u →
+    Links s (done ++ a ∷ []) u
 links-more a no-link m = link m no-link
 links-more a (link n l) m = link n (links-more a l m)
 
@@ -76,11 +78,14 @@ module _ (n : ℕ) (e : ℤ) (d : ℕ) (a : OpenAnswer) (opening : open-method.P
   unit = a .sum .kept .format .unit
 
   -- 1. words accepted = words handed out, each in its own unit, plus what is kept
-  pub linked-totals : (done : List Answered) (last : RunningSum) → Links (a .sum) done last → accepted unit done ≡ handedOut unit done +ℤ roundBitValue (last .kept)
+  pub linked-totals : (done : List Answered) (last : RunningSum) → Links (a .sum) done last →
+      accepted unit done ≡ handedOut unit done +ℤ roundBitValue (last .kept)
   linked-totals done last chain =
       let r = links-run chain in
-      let t : accepted unit (answered (a .sum) (calls done)) ≡ handedOut unit (answered (a .sum) (calls done)) +ℤ roundBitValue (left (a .sum) (calls done) .kept) =
-      subst (λ (o : OpenAnswer). let u = o .sum .kept .format .unit in accepted u (answered (o .sum) (calls done)) ≡ handedOut u (answered (o .sum) (calls done)) +ℤ roundBitValue (left (o .sum) (calls done) .kept)) (sym opening) (totals n e d (calls done)) in
+      let t : accepted unit (answered (a .sum) (calls done)) ≡ handedOut unit (answered (a .sum) (calls done)) +ℤ roundBitValue
+      (left (a .sum) (calls done) .kept) =
+      subst (λ (o : OpenAnswer). let u = o .sum .kept .format .unit in accepted u (answered (o .sum) (calls done)) ≡ handedOut u
+      (answered (o .sum) (calls done)) +ℤ roundBitValue (left (o .sum) (calls done) .kept)) (sym opening) (totals n e d (calls done)) in
       ap (accepted unit) (r .0)
       ∙ t
       ∙ ap (λ (l : List Answered). handedOut unit l +ℤ roundBitValue (left (a .sum) (calls done) .kept)) (sym (r .0))
@@ -91,18 +96,20 @@ module _ (n : ℕ) (e : ℤ) (d : ℕ) (a : OpenAnswer) (opening : open-method.P
     pub linked-unchanged : (last .kept .format ≡ a .sum .kept .format) × (last .depth ≡ a .sum .depth)
     linked-unchanged =
         let r = links-run chain in
-        let u = subst (λ (o : OpenAnswer). (left (o .sum) (calls done) .kept .format ≡ o .sum .kept .format) × (left (o .sum) (calls done) .depth ≡ o .sum .depth)) (sym opening) (unchanged n e d (calls done)) in
+        let u = subst (λ (o : OpenAnswer). (left (o .sum) (calls done) .kept .format ≡ o .sum .kept .format) ×
+        (left (o .sum) (calls done) .depth ≡ o .sum .depth)) (sym opening) (unchanged n e d (calls done)) in
         (ap (λ (s : RunningSum). s .kept .format) (r .1) ∙ u .0, ap (λ (s : RunningSum). s .depth) (r .1) ∙ u .1)
 
-    pub linked-passes : a .outcome ≡ Done → sumCheck last ≡ Done
+    pub linked-passes : a .outcome ≡ Done → runningSumCheck last ≡ Done
     linked-passes h =
         let r = links-run chain in
         let o = sym (ap (λ (x : OpenAnswer). x .outcome) opening) ∙ h in
-        let p = subst (λ (x : OpenAnswer). sumCheck (left (x .sum) (calls done)) ≡ Done) (sym opening) (never-refused n e d (calls done) o) in
-        ap sumCheck (r .1) ∙ p
+        let p = subst (λ (x : OpenAnswer). runningSumCheck (left (x .sum) (calls done)) ≡ Done) (sym opening) (never-refused n e d (calls done) o) in
+        ap runningSumCheck (r .1) ∙ p
 
     -- after a refused opening every call is refused and the sum stays the blank one
-    pub linked-shut : (a .outcome ≡ Done → ⊥) → (c : Call) (o : Outcome) (v : RoundBitWord) (t : RunningSum) → Meets last c o v t → (o ≡ Done → ⊥) × (last ≡ shut)
+    pub linked-shut : (a .outcome ≡ Done → ⊥) → (c : Call) (o : Outcome) (v : RoundBitWord) (t : RunningSum) → Meets last c o v t →
+        (o ≡ Done → ⊥) × (last ≡ shut)
     linked-shut h c o v t m =
         let r = links-run chain in
         let q = always-refused n e d (calls done) c (λ k. h (ap (λ (x : OpenAnswer). x .outcome) opening ∙ k)) in
@@ -125,11 +132,17 @@ module _ (n : ℕ) (e : ℤ) (d : ℕ) (a : OpenAnswer) (opening : open-method.P
           let i = accepted unit now in
           let o = handedOut unit now in
           let k = roundBitValue (t .kept) in
-          let same : i -ℤ o ≡ k = omega (ints, linked-totals now t (links-more (record { call = handOut; outcome = Done; word = v }) chain m), plus-law o k, minus-law i o) in
+          let same : i -ℤ o ≡ k = omega (
+            ints,
+            linked-totals now t (links-more (record { call = handOut; outcome = Done; word = v }) chain m),
+            plus-law o k,
+            minus-law i o,
+          ) in
           rw same linked-small
 
     -- 3. right after a done emptying the two totals are equal
-    pub linked-equal : (v : RoundBitWord) (t : RunningSum) → Meets last empty Done v t → let now = done ++ record { call = empty; outcome = Done; word = v } ∷ [] in accepted unit now ≡ handedOut unit now
+    pub linked-equal : (v : RoundBitWord) (t : RunningSum) → Meets last empty Done v t →
+        let now = done ++ record { call = empty; outcome = Done; word = v } ∷ [] in accepted unit now ≡ handedOut unit now
     linked-equal v t m =
         let p = meets-step last empty Done v t m in
         let now = done ++ record { call = empty; outcome = Done; word = v } ∷ [] in

@@ -60,7 +60,8 @@ coarse a r = flat 0 a r 6 (pos 2)
 
 -- refused by a number with the sum as it was, of a kept word, width, unit and depth
 abbrev refuses : ℕ → RunningSum → Answer
-refuses o s = record { word = noWord o; kept = flat 0 (s .kept .number .0) (s .kept .number .1) (s .kept .format .width) (s .kept .format .unit); depth = s .depth }
+refuses o s =
+    record { word = noWord o; kept = flat 0 (s .kept .number .0) (s .kept .number .1) (s .kept .format .width) (s .kept .format .unit); depth = s .depth }
 
 -- a sum of width n and unit e that keeps (a, r) at a depth
 abbrev sumAt : ℕ → ℤ → ℕ → ℤ → ℕ → RunningSum
@@ -130,5 +131,6 @@ abbrev differs : Row → Bool
 differs r = not (sameAnswer (answer r) (claimed r))
 
 all-wrong : all (length wrong) (λ k. differs (getD wrong k (opening 8 (pos 0) 2 (gives (noWord 0) (pos 0) 0)))) ≡ true
-unfolding firstBad fitsWidth floorBy lowest digit digitsBelow lowDigits formatCheck wordCheck narrowerCheck roundBitCheck roundBitFitted cutBy restWord sumWord depthCheck openAnswer openOf stepped putCheck stepOf
+unfolding firstBad fitsWidth floorBy lowest digit digitsBelow lowDigits formatCheck wordCheck narrowerCheck roundBitCheck roundBitFitted cutBy restWord sumWord
+    depthCheck openAnswer openOf stepped putCheck stepOf
 all-wrong = refl

@@ -1,29 +1,44 @@
--- Demand 3: a list of calls on a running sum, and the two totals, from the calls, their answers and the sum's unit alone.
+-- Demand 3: a list of calls on a running sum, and the two totals, from the calls, their answers and
+-- the sum's unit alone.
 use Rattle.integers.specs.Names.{ℕ, _^_, List, [], _∷_, ℤ, pos, negsuc, _+ℤ_, _-ℤ_, _*ℤ_}
-use Rattle.words.specs.{declared.{Outcome.{Outcome, the-variants.{Done, Refused}}, RoundBitWord.RoundBitWord}, RoundBit.roundBitValue}
-use Rattle.running_sum.specs.{declared.RunningSum.RunningSum, Steps.{Call, put, handOut, empty, stepOf}}
+use Rattle.words.specs.declared.Outcome.{Outcome}
+use Rattle.words.specs.declared.Outcome.the-variants.{Done, Refused}
+use Rattle.words.specs.declared.RoundBitWord.{RoundBitWord}
+use Rattle.words.specs.RoundBit.{roundBitValue}
+use Rattle.running_sum.specs.declared.RunningSum.{RunningSum}
+use Rattle.running_sum.specs.Steps.{Call, put, handOut, empty, stepOf}
 
-pub record Answered : Type 0 where  -- a call and what it answered
+-- a call and what it answered
+pub record Answered : Type 0 where
   pub call : Call
   pub outcome : Outcome
   pub word : RoundBitWord
 
-unfoldable pub answered : RunningSum → List Call → List Answered  -- what calls answer, "each call being made on the sum that the call before left"
+-- what calls answer, "each call being made on the sum that the call before left"
+unfoldable pub answered : RunningSum → List Call → List Answered
 answered s [] = []
-answered s (c ∷ cs) = let t = stepOf s c in record { call = c; outcome = t .outcome; word = t .word } ∷ answered (t .sum) cs
+answered s (c ∷ cs) =
+    let t = stepOf s c in
+    record { call = c; outcome = t .outcome; word = t .word } ∷ answered (t .sum) cs
 
-unfoldable pub left : RunningSum → List Call → RunningSum  -- and the sum that is left
+-- and the sum that is left
+unfoldable pub left : RunningSum → List Call → RunningSum
 left s [] = s
 left s (c ∷ cs) = left (stepOf s c .sum) cs
 
-abbrev pub coarser : ℤ → ℕ  -- how often a unit of 2 ^ (e + d) counts in units of 2 ^ e. A finer unit is no whole count; no done call has a word of one
+-- how often a unit of 2 ^ (e + d) counts in units of 2 ^ e. A finer unit is no whole count; no done
+-- call has a word of one
+abbrev pub coarser : ℤ → ℕ
 coarser (pos d) = 2 ^ d
 coarser (negsuc d) = 1
 
-unfoldable pub amount : ℤ → RoundBitWord → ℤ  -- a word in its own unit, as half units of 2 ^ e
+-- a word in its own unit, as half units of 2 ^ e
+unfoldable pub amount : ℤ → RoundBitWord → ℤ
 amount e w = roundBitValue w *ℤ pos (coarser (w .format .unit -ℤ e))
 
-unfoldable pub takenIn : ℤ → Call → Outcome → ℤ  -- what a call and its answer add to the words accepted, and to the words handed out; only done answers count
+-- what a call and its answer add to the words accepted, and to the words handed out; only done
+-- answers count
+unfoldable pub takenIn : ℤ → Call → Outcome → ℤ
 takenIn e (put w) Done = amount e w
 takenIn e (put w) (Refused c) = pos 0
 takenIn e handOut o = pos 0

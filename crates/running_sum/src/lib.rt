@@ -8,7 +8,8 @@
 // A sum goes in by value and comes back by value. Every call takes any sum, also one that no opening
 // made, and a refused call leaves the sum as it was, digit for digit.
 ghost use mathlib.Core.Path.{_≡_};
-ghost use Rattle.running_sum.specs.Steps.{depthCheck, openCheck, openAnswer, openOf, put, handOut, empty, stepOf, sumCheck, putCheck, keeping, putAnswer, handOutAnswer, emptyAnswer};
+ghost use Rattle.words.specs.Refusals.{blankFormat};
+ghost use Rattle.running_sum.specs.Steps.{blank, depthCheck, openCheck, openAnswer, openOf, put, handOut, empty, stepOf, runningSumCheck, putCheck, keeping, putAnswer, handOutAnswer, emptyAnswer};
 use words::Cause;
 use words::Format;
 use words::Outcome;
@@ -46,94 +47,33 @@ pub struct EmptyAnswer {
     pub sum: RunningSum,
 }
 
-const BLANK: RoundBitWord = RoundBitWord {
-    number: RoundBit(0, 0),
-    format: Format { width: 2, unit: 0 },
-};
-
 // 5, then 7. A depth that is not 0 leaves at least 2 digits exactly where a cut by it does.
 fn depth_check(f: Format, d: u64) -> Outcome
     ensures { λ r. ⌜ r ≡ depthCheck f d ⌝ }
 {
-    match words::refuse(Cause::Depth, d == 0) {
-        Outcome::Refused(c) => Outcome::Refused(c),
-        Outcome::Done => {
-            let a = words::narrower(f, d);
-            a.outcome
-        }
+    if let Outcome::Refused(c) = words::refuse(Cause::Depth, d == 0) {
+        Outcome::Refused(c)
+    } else {
+        let a = words::narrower(f, d);
+        a.outcome
     }
 }
 
 fn open_check(f: Format, d: u64) -> Outcome
     ensures { λ r. ⌜ r ≡ openCheck f d ⌝ }
 {
-    match words::format_check(f) {
-        Outcome::Refused(c) => Outcome::Refused(c),
-        Outcome::Done => depth_check(f, d),
+    if let Outcome::Refused(c) = words::format_check(f) {
+        Outcome::Refused(c)
+    } else {
+        depth_check(f, d)
     }
 }
 
-fn open_answer(o: Outcome, f: Format, d: u64) -> OpenAnswer
-    ensures { λ r. ⌜ r ≡ openAnswer o f d ⌝ }
+// A running sum is made here, and by `keeping` from another.
+fn opened(w: RoundBitWord, d: u64) -> RunningSum
+    ensures { λ r. ⌜ r ≡ record { kept = w; depth = d } ⌝ }
 {
-    match o {
-        Outcome::Refused(c) => OpenAnswer {
-            outcome: Outcome::Refused(c),
-            sum: RunningSum {
-                kept: BLANK,
-                depth: 0,
-            },
-        },
-        Outcome::Done => OpenAnswer {
-            outcome: Outcome::Done,
-            sum: RunningSum {
-                kept: RoundBitWord {
-                    number: RoundBit(0, 0),
-                    format: f,
-                },
-                depth: d,
-            },
-        },
-    }
-}
-
-// Opens a sum of this width, unit and depth.
-pub fn open(width: u32, unit: i32, depth: u64) -> OpenAnswer
-    ensures { λ r. ⌜ r ≡ openOf width unit depth ⌝ }
-{
-    let f = Format {
-        width: width,
-        unit: unit,
-    };
-    open_answer(open_check(f, depth), f, depth)
-}
-
-// What every call asks of the sum: 1, 2, 3 of its kept word, then 5 and 7 of its depth.
-fn sum_check(s: RunningSum) -> Outcome
-    ensures { λ r. ⌜ r ≡ sumCheck s ⌝ }
-{
-    match words::round_bit_check(s.kept) {
-        Outcome::Refused(c) => Outcome::Refused(c),
-        Outcome::Done => depth_check(s.kept.format, s.depth),
-    }
-}
-
-// All that a put asks but the sum's own 8: the lowest of 4, 5 and 7 comes after both words' 1, 2, 3.
-fn put_check(s: RunningSum, w: RoundBitWord) -> Outcome
-    ensures { λ r. ⌜ r ≡ putCheck s w ⌝ }
-{
-    match words::round_bit_check(s.kept) {
-        Outcome::Refused(c) => Outcome::Refused(c),
-        Outcome::Done => match words::round_bit_check(w) {
-            Outcome::Refused(c) => Outcome::Refused(c),
-            Outcome::Done => {
-                match words::refuse(Cause::Mismatch, words::differ(s.kept.format, w.format)) {
-                    Outcome::Refused(c) => Outcome::Refused(c),
-                    Outcome::Done => depth_check(s.kept.format, s.depth),
-                }
-            }
-        },
-    }
+    RunningSum { kept: w, depth: d }
 }
 
 fn keeping(s: RunningSum, w: RoundBitWord) -> RunningSum
@@ -146,32 +86,151 @@ fn keeping(s: RunningSum, w: RoundBitWord) -> RunningSum
     }
 }
 
+fn open_refused(c: Cause) -> OpenAnswer
+    ensures { λ r. ⌜ r ≡ openAnswer (Outcome.Refused c) blankFormat 0 ⌝ }
+{
+    let a = words::round_bit_refused(c);
+    let s = opened(a.word, 0);
+    OpenAnswer {
+        outcome: Outcome::Refused(c),
+        sum: s,
+    }
+}
+
+fn open_done(f: Format, d: u64) -> OpenAnswer
+    ensures { λ r. ⌜ r ≡ openAnswer Outcome.Done f d ⌝ }
+{
+    let w = RoundBitWord {
+        number: RoundBit(0, 0),
+        format: f,
+    };
+    let s = opened(w, d);
+    OpenAnswer {
+        outcome: Outcome::Done,
+        sum: s,
+    }
+}
+
+// Opens a sum of this width, unit and depth.
+pub fn open(width: u32, unit: i32, depth: u64) -> OpenAnswer
+    ensures { λ r. ⌜ r ≡ openOf width unit depth ⌝ }
+{
+    let f = Format {
+        width: width,
+        unit: unit,
+    };
+    match open_check(f, depth) {
+        Outcome::Refused(c) => open_refused(c),
+        Outcome::Done => open_done(f, depth),
+    }
+}
+
+// What every call asks of the sum: 1, 2, 3 of its kept word, then 5 and 7 of its depth.
+fn running_sum_check(s: RunningSum) -> Outcome
+    ensures { λ r. ⌜ r ≡ runningSumCheck s ⌝ }
+{
+    if let Outcome::Refused(c) = words::round_bit_check(s.kept) {
+        Outcome::Refused(c)
+    } else {
+        depth_check(s.kept.format, s.depth)
+    }
+}
+
+// All that a put asks but the sum's own 8: the lowest of 4, 5 and 7 comes after both words' 1, 2, 3.
+fn put_check(s: RunningSum, w: RoundBitWord) -> Outcome
+    ensures { λ r. ⌜ r ≡ putCheck s w ⌝ }
+{
+    if let Outcome::Refused(c) = words::round_bit_check(s.kept) {
+        Outcome::Refused(c)
+    } else if let Outcome::Refused(c) = words::round_bit_check(w) {
+        Outcome::Refused(c)
+    } else if let Outcome::Refused(c) = words::refuse(
+        Cause::Mismatch,
+        words::differ(s.kept.format, w.format),
+    ) {
+        Outcome::Refused(c)
+    } else {
+        depth_check(s.kept.format, s.depth)
+    }
+}
+
+fn put_refused(c: Cause, s: RunningSum) -> PutAnswer
+    ensures { λ r. ⌜ r ≡ record { outcome = Outcome.Refused c; sum = s } ⌝ }
+{
+    PutAnswer {
+        outcome: Outcome::Refused(c),
+        sum: s,
+    }
+}
+
+fn put_done(s: RunningSum) -> PutAnswer
+    ensures { λ r. ⌜ r ≡ record { outcome = Outcome.Done; sum = s } ⌝ }
+{
+    PutAnswer {
+        outcome: Outcome::Done,
+        sum: s,
+    }
+}
+
+fn hand_out_refused(c: Cause, s: RunningSum) -> HandOutAnswer
+    ensures { λ r. ⌜ r ≡ record { outcome = Outcome.Refused c; word = blank; sum = s } ⌝ }
+{
+    let a = words::round_bit_refused(c);
+    let blank = a.word;
+    HandOutAnswer {
+        outcome: Outcome::Refused(c),
+        word: blank,
+        sum: s,
+    }
+}
+
+fn hand_out_done(w: RoundBitWord, s: RunningSum) -> HandOutAnswer
+    ensures { λ r. ⌜ r ≡ record { outcome = Outcome.Done; word = w; sum = s } ⌝ }
+{
+    HandOutAnswer {
+        outcome: Outcome::Done,
+        word: w,
+        sum: s,
+    }
+}
+
+fn empty_refused(c: Cause, s: RunningSum) -> EmptyAnswer
+    ensures { λ r. ⌜ r ≡ record { outcome = Outcome.Refused c; word = blank; sum = s } ⌝ }
+{
+    let a = words::round_bit_refused(c);
+    let blank = a.word;
+    EmptyAnswer {
+        outcome: Outcome::Refused(c),
+        word: blank,
+        sum: s,
+    }
+}
+
+fn empty_done(w: RoundBitWord, s: RunningSum) -> EmptyAnswer
+    ensures { λ r. ⌜ r ≡ record { outcome = Outcome.Done; word = w; sum = s } ⌝ }
+{
+    EmptyAnswer {
+        outcome: Outcome::Done,
+        word: w,
+        sum: s,
+    }
+}
+
 impl RunningSum {
     // Put: kept becomes the sum of kept and the word.
     pub fn put(mut self, word: RoundBitWord) -> PutAnswer
         ensures { λ r. ⌜ r ≡ putAnswer (stepOf self (put word)) ⌝ }
     {
-        match put_check(self, word) {
-            Outcome::Refused(c) => PutAnswer {
-                outcome: Outcome::Refused(c),
-                sum: self,
-            },
-            Outcome::Done => {
-                let a = round_bit::sum(self.kept, word);
-                let fit = a.outcome;
-                match fit {
-                    Outcome::Refused(c) => PutAnswer {
-                        outcome: Outcome::Refused(c),
-                        sum: self,
-                    },
-                    Outcome::Done => {
-                        self = keeping(self, a.word);
-                        PutAnswer {
-                            outcome: Outcome::Done,
-                            sum: self,
-                        }
-                    }
-                }
+        if let Outcome::Refused(c) = put_check(self, word) {
+            put_refused(c, self)
+        } else {
+            let a = round_bit::sum(self.kept, word);
+            let fit = a.outcome;
+            if let Outcome::Refused(c) = fit {
+                put_refused(c, self)
+            } else {
+                self = keeping(self, a.word);
+                put_done(self)
             }
         }
     }
@@ -180,17 +239,18 @@ impl RunningSum {
     pub fn hand_out(mut self) -> HandOutAnswer
         ensures { λ r. ⌜ r ≡ handOutAnswer (stepOf self handOut) ⌝ }
     {
-        match sum_check(self) {
-            Outcome::Refused(c) => HandOutAnswer {
-                outcome: Outcome::Refused(c),
-                word: BLANK,
-                sum: self,
-            },
-            Outcome::Done => {
-                let a = round_bit::cut(self.kept, self.depth);
-                let b = round_bit::rest(self.kept, self.depth);
+        if let Outcome::Refused(c) = words::round_bit_check(self.kept) {
+            hand_out_refused(c, self)
+        } else if let Outcome::Refused(c) = words::refuse(Cause::Depth, self.depth == 0) {
+            hand_out_refused(c, self)
+        } else {
+            let a = round_bit::cut_and_rest(self.kept, self.depth);
+            let o = a.outcome;
+            if let Outcome::Refused(c) = o {
+                hand_out_refused(c, self)
+            } else {
                 let word = a.word;
-                let rest = b.word;
+                let rest = a.rest;
                 let f = rest.format;
                 // The round bit too: without it the trace creeps.
                 let kept = RoundBitWord {
@@ -198,11 +258,7 @@ impl RunningSum {
                     format: f,
                 };
                 self = keeping(self, kept);
-                HandOutAnswer {
-                    outcome: Outcome::Done,
-                    word: word,
-                    sum: self,
-                }
+                hand_out_done(word, self)
             }
         }
     }
@@ -211,27 +267,18 @@ impl RunningSum {
     pub fn empty(mut self) -> EmptyAnswer
         ensures { λ r. ⌜ r ≡ emptyAnswer (stepOf self empty) ⌝ }
     {
-        match sum_check(self) {
-            Outcome::Refused(c) => EmptyAnswer {
-                outcome: Outcome::Refused(c),
-                word: BLANK,
-                sum: self,
-            },
-            Outcome::Done => {
-                let word = self.kept;
-                let f = word.format;
-                let zero = RoundBit(0, 0);
-                let nothing = RoundBitWord {
-                    number: zero,
-                    format: f,
-                };
-                self = keeping(self, nothing);
-                EmptyAnswer {
-                    outcome: Outcome::Done,
-                    word: word,
-                    sum: self,
-                }
-            }
+        if let Outcome::Refused(c) = running_sum_check(self) {
+            empty_refused(c, self)
+        } else {
+            let word = self.kept;
+            let f = word.format;
+            let zero = RoundBit(0, 0);
+            let nothing = RoundBitWord {
+                number: zero,
+                format: f,
+            };
+            self = keeping(self, nothing);
+            empty_done(word, self)
         }
     }
 }

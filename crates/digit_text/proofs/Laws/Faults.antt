@@ -41,11 +41,13 @@ fault-tells t k l = go (strange b) refl (eqb b none) refl (eqb b (signBefore t k
     b : ℕ
     b = getD t k none
 
-    go : (a : Bool) → strange b ≡ a → (n : Bool) → eqb b none ≡ n → (s : Bool) → eqb b (signBefore t k) ≡ s → not (a || not n && s) ≡ false → Strange t ⊎ Repeated t
+    go : (a : Bool) → strange b ≡ a → (n : Bool) → eqb b none ≡ n → (s : Bool) → eqb b (signBefore t k) ≡ s → not (a || not n && s) ≡ false →
+        Strange t ⊎ Repeated t
     go true e n f s g h = inl (record { place = k; inside = l; byte = e })
     go false e true f s g h = absurd (true≢false h)
     go false e false f false g h = absurd (true≢false h)
-    go false e false f true g h = inr (record { first = p .place; second = k; order = p .before; inside = l; nonzero = nonzero; same = p .sign ∙ sym same; between = p .between })
+    go false e false f true g h =
+        inr (record { first = p .place; second = k; order = p .before; inside = l; nonzero = nonzero; same = p .sign ∙ sym same; between = p .between })
       where
         same : b ≡ signBefore t k
         same = eqb-true b (signBefore t k) g
@@ -89,7 +91,8 @@ good-rounds t g k l h =
     rw (cut-off t k h) (rw rest at near)
 
 -- the last bytes from the first of two repeated signs on are worth more than that sign alone
-repeated-moves : (t : List ℕ) (p : Repeated t) → strange (getD t (p .second) none) ≡ false → natAbs (textValue (drop (p .first) t)) ≤ 2 ^ (length t - p .first - 1) → ⊥
+repeated-moves : (t : List ℕ) (p : Repeated t) → strange (getD t (p .second) none) ≡ false →
+    natAbs (textValue (drop (p .first) t)) ≤ 2 ^ (length t - p .first - 1) → ⊥
 unfolding digitOf
 repeated-moves t p o r = go (getD t (p .second) none) (byte-kind _ o) refl
   where

@@ -57,7 +57,8 @@ unfolding faulty
 text-not-faulty w h = rw (text-good w h) (le-ltb (length (text w)) (length (text w)) (omega arith))
 
 -- what is read is the value a + r less the round bit that is read, and that round bit
-read-text : (w : RoundBitWord) → roundBitCheck w ≡ Done → (s : ℕ) → readRound (text w) ≡ s → readOf (text w) (w .format .unit) ≡ readAnswer (roundBitDone (roundBitWord (w .number .0 +ℤ pos (w .number .1) -ℤ pos s) s (w .format)))
+read-text : (w : RoundBitWord) → roundBitCheck w ≡ Done → (s : ℕ) → readRound (text w) ≡ s →
+    readOf (text w) (w .format .unit) ≡ readAnswer (roundBitDone (roundBitWord (w .number .0 +ℤ pos (w .number .1) -ℤ pos s) s (w .format)))
 unfolding readOf readWord
 read-text w e s q =
     let g = round-bit-right w e in
@@ -65,7 +66,8 @@ read-text w e s q =
     let done = read-passes (text w) (f .unit) (rw (text-length w) (g .format)) (text-not-faulty w (g .bit)) in
     rw (done, q, text-value w e, text-length w)
 
-pub write-read : (w : RoundBitWord) → roundBitCheck w ≡ Done → (w .number ≡ record { 0 = negsuc 0; 1 = 1 } → ⊥) → readOf (text w) (w .format .unit) ≡ readAnswer (roundBitDone w)
+pub write-read : (w : RoundBitWord) → roundBitCheck w ≡ Done → (w .number ≡ record { 0 = negsuc 0; 1 = 1 } → ⊥) →
+    readOf (text w) (w .format .unit) ≡ readAnswer (roundBitDone w)
 unfolding readRound
 write-read w e n = go (last-sign (bitBelow x k) (digits-steps x (round-bit-right w e .bit) k))
   where
@@ -75,7 +77,8 @@ write-read w e n = go (last-sign (bitBelow x k) (digits-steps x (round-bit-right
     k : ℕ
     k = w .format .width
 
-    go : (plusBit (signFrom none (digitsText x k) (length (digitsText x k))) ≡ x .1) ⊎ ((textValue (digitsText x k) ≡ pos 0) × (x .1 ≡ 1)) → readOf (text w) (w .format .unit) ≡ readAnswer (roundBitDone w)
+    go : (plusBit (signFrom none (digitsText x k) (length (digitsText x k))) ≡ x .1) ⊎ ((textValue (digitsText x k) ≡ pos 0) × (x .1 ≡ 1)) →
+        readOf (text w) (w .format .unit) ≡ readAnswer (roundBitDone w)
     go (inl q) = rw (read-text w e (x .1) (rw (sign-from-none (text w) (length (text w)), text-is w) q), +ℤ-negℤ-cancel (x .0) (pos (x .1)))
     go (inr q) =
         let sum = text-value w e in
@@ -95,7 +98,8 @@ minus-one-sign (suc n) =
     one-below zero = refl
     one-below (suc i) = digit-minus-one i
 
-pub write-read-minus-one : (f : Format) → roundBitCheck (roundBitWord (negsuc 0) 1 f) ≡ Done → readOf (text (roundBitWord (negsuc 0) 1 f)) (f .unit) ≡ readAnswer (roundBitDone (roundBitWord (pos 0) 0 f))
+pub write-read-minus-one : (f : Format) → roundBitCheck (roundBitWord (negsuc 0) 1 f) ≡ Done →
+    readOf (text (roundBitWord (negsuc 0) 1 f)) (f .unit) ≡ readAnswer (roundBitDone (roundBitWord (pos 0) 0 f))
 unfolding readRound
 write-read-minus-one f e =
     let w = roundBitWord (negsuc 0) 1 f in

@@ -76,7 +76,8 @@ sign-from-cons s b t zero = refl
 sign-from-cons s b t (suc k) = rw (sign-from-cons s b t k)
 
 -- ---- the first nonzero digit decides the sign of what a text is worth
-pub leads : (t : List ℕ) (m : ℕ) → m < length t → ((i : ℕ) → i < m → getD t i none ≡ none) → (getD t m none ≡ plus → down (textValue t) < up (textValue t)) × (getD t m none ≡ minus → up (textValue t) < down (textValue t))
+pub leads : (t : List ℕ) (m : ℕ) → m < length t → ((i : ℕ) → i < m → getD t i none ≡ none) →
+    (getD t m none ≡ plus → down (textValue t) < up (textValue t)) × (getD t m none ≡ minus → up (textValue t) < down (textValue t))
 unfolding digitOf
 leads [] m l z = absurd (not-suc-le-zero l)
 leads (b ∷ t) zero l z = (
@@ -109,7 +110,8 @@ last-sign (suc zero) (ends h) = inr (nothing-worth, refl)
 last-sign (suc zero) (steps {c = zero} {t = t} h k p) = inl (rw (sign-from-cons none minus t (length t)) (last-bit minus refl p))
 last-sign (suc zero) (steps {c = suc zero} {r = r} {t = t} h k p) = go (last-sign 1 p)
   where
-    go : (plusBit (signFrom none t (length t)) ≡ r) ⊎ ((textValue t ≡ pos 0) × (r ≡ 1)) → (plusBit (signFrom none (none ∷ t) (suc (length t))) ≡ r) ⊎ ((textValue (none ∷ t) ≡ pos 0) × (r ≡ 1))
+    go : (plusBit (signFrom none t (length t)) ≡ r) ⊎ ((textValue t ≡ pos 0) × (r ≡ 1)) →
+        (plusBit (signFrom none (none ∷ t) (suc (length t))) ≡ r) ⊎ ((textValue (none ∷ t) ≡ pos 0) × (r ≡ 1))
     go (inl e) = inl (rw (sign-from-cons none none t (length t)) e)
     go (inr e) = inr (omega (ints, cons-law none t, e .0), e .1)
 last-sign (suc zero) (steps {c = suc (suc c)} h k p) = absurd (omega arith)

@@ -21,7 +21,8 @@ pub nothing-worth : textValue [] ≡ pos 0
 unfolding textValue
 nothing-worth = refl
 
-pub cons-law : (b : ℕ) (t : List ℕ) → up (textValue (b ∷ t)) + down (digitOf b) * 2 ^ length t + down (textValue t) ≡ up (digitOf b) * 2 ^ length t + up (textValue t) + down (textValue (b ∷ t))
+pub cons-law : (b : ℕ) (t : List ℕ) →
+    up (textValue (b ∷ t)) + down (digitOf b) * 2 ^ length t + down (textValue t) ≡ up (digitOf b) * 2 ^ length t + up (textValue t) + down (textValue (b ∷ t))
 unfolding textValue
 cons-law b t =
     let p = pos (2 ^ length t) in omega (arith, plus-law (digitOf b *ℤ p) (textValue t), times-law (digitOf b) p)
@@ -61,7 +62,9 @@ step-digit : (c b : ℕ) → c ≤ 1 → b ≤ 1 → digitOf (byteOf (pos c -ℤ
 unfolding byteOf digitOf
 step-digit = both-bits (λ c b. digitOf (byteOf (pos c -ℤ pos b)) ≡ pos c -ℤ pos b) refl refl refl refl
 
-pub step-law : (c b : ℕ) (t : List ℕ) → c ≤ 1 → b ≤ 1 → up (textValue (byteOf (pos c -ℤ pos b) ∷ t)) + b * 2 ^ length t + down (textValue t) ≡ c * 2 ^ length t + up (textValue t) + down (textValue (byteOf (pos c -ℤ pos b) ∷ t))
+pub step-law : (c b : ℕ) (t : List ℕ) → c ≤ 1 → b ≤ 1 →
+    up (textValue (byteOf (pos c -ℤ pos b) ∷ t)) + b * 2 ^ length t + down (textValue t)
+    ≡ c * 2 ^ length t + up (textValue t) + down (textValue (byteOf (pos c -ℤ pos b) ∷ t))
 step-law c b t h k =
     omega (
       arith,
@@ -79,7 +82,14 @@ pub steps-high : {b r : ℕ} {t : List ℕ} → Steps b t r → up (textValue t)
 steps-high (ends h) = rw nothing-worth (omega arith)
 steps-high (steps {b = b} {c = c} {t = t} h k s) =
     let p = 2 ^ length t in
-    omega (arith, steps-high s, step-law c b t k h, pow-succ' 2 (length t), ap (λ (i : ℕ). b * i) (pow-succ' 2 (length t)), mul-le-mul-right {m = b} {n = 1} p h)
+    omega (
+      arith,
+      steps-high s,
+      step-law c b t k h,
+      pow-succ' 2 (length t),
+      ap (λ (i : ℕ). b * i) (pow-succ' 2 (length t)),
+      mul-le-mul-right {m = b} {n = 1} p h,
+    )
 
 -- less the bit below them they fit their count, so they are worth at most 2 ^ (n - 1) either way
 pub steps-fit : {b r : ℕ} {t : List ℕ} → Steps b t r → 1 ≤ length t → mag (textValue t -ℤ pos r) < 2 ^ (length t - 1)
@@ -87,7 +97,14 @@ steps-fit (ends h) l = absurd (not-suc-le-zero l)
 steps-fit (steps {b = b} {c = c} {r = r} {t = t} h k s) l =
     let v = textValue (byteOf (pos c -ℤ pos b) ∷ t) in
     let one-less : suc (length t) - 1 ≡ length t = omega arith in
-    rw one-less (by-size (2 ^ length t) (v -ℤ pos r) (omega (arith, steps-low s, steps-high s, step-law c b t k h, minus-law v (pos r), mul-le-mul-right {m = b} {n = 1} (2 ^ length t) h)))
+    rw one-less (by-size (2 ^ length t) (v -ℤ pos r) (omega (
+      arith,
+      steps-low s,
+      steps-high s,
+      step-law c b t k h,
+      minus-law v (pos r),
+      mul-le-mul-right {m = b} {n = 1} (2 ^ length t) h,
+    )))
 
 pub steps-near : {b r : ℕ} {t : List ℕ} → Steps b t r → 1 ≤ length t → natAbs (textValue t) ≤ 2 ^ (length t - 1)
 steps-near {r = r} {t = t} s l =
@@ -117,7 +134,8 @@ digits-steps x h zero = ends h
 digits-steps x h (suc n) = steps (digit-le (x .0) n) (bit-below-le x h n) (digits-steps x h n)
 
 -- they are worth r and the digits of a below n, less the highest of these at twice its weight
-pub digits-value : (x : RoundBit) → x .1 ≤ 1 → (n : ℕ) → up (textValue (digitsText x n)) + bitBelow x n * 2 ^ n ≡ x .1 + digitsBelow (x .0) n + down (textValue (digitsText x n))
+pub digits-value : (x : RoundBit) → x .1 ≤ 1 → (n : ℕ) →
+    up (textValue (digitsText x n)) + bitBelow x n * 2 ^ n ≡ x .1 + digitsBelow (x .0) n + down (textValue (digitsText x n))
 unfolding digitsBelow
 digits-value x h zero = rw nothing-worth (omega arith)
 digits-value x h (suc n) =
@@ -129,7 +147,8 @@ digits-value x h (suc n) =
     )
 
 -- ---- the steps t, from the bit b above them to the bit r below them, are the digits of every number whose digits below n are worth as much
-steps-written : {b r : ℕ} {t : List ℕ} (a : ℤ) → Steps b t r → up (textValue t) + b * 2 ^ length t ≡ r + digitsBelow a (length t) + down (textValue t) → (bitBelow (record { 0 = a; 1 = r }) (length t) ≡ b) × (digitsText (record { 0 = a; 1 = r }) (length t) ≡ t)
+steps-written : {b r : ℕ} {t : List ℕ} (a : ℤ) → Steps b t r → up (textValue t) + b * 2 ^ length t ≡ r + digitsBelow a (length t) + down (textValue t) →
+    (bitBelow (record { 0 = a; 1 = r }) (length t) ≡ b) × (digitsText (record { 0 = a; 1 = r }) (length t) ≡ t)
 steps-written a (ends h) e = (refl, refl)
 steps-written a (steps {b = b} {c = c} {r = r} {t = t} h k s) e =
     let n = length t in

@@ -94,7 +94,8 @@ cut-text w d e =
     let whole : n - d + d ≡ n = omega arith in
     let x = digitsText (cutWord w d .number) (n - d) in
     let split : x ++ digitsText (w .number) d ≡ digitsText (w .number) n = cut-digits w d (n - d) ∙ ap (digitsText (w .number)) whole in
-    rw (c .1, text-is (cutWord w d), cut-format w d, text-is w, ← split) (sym (take-at x (digitsText (w .number) d) (n - d) (digits-length (cutWord w d .number) (n - d))))
+    rw (c .1, text-is (cutWord w d), cut-format w d, text-is w, ← split)
+    (sym (take-at x (digitsText (w .number) d) (n - d) (digits-length (cutWord w d .number) (n - d))))
 
 -- ---- widening is appending zeros: every digit below d of the widened number is its round bit
 abbrev widened : RoundBit → ℕ → RoundBit

@@ -22,8 +22,12 @@ loop-holds : tie.Need-loop-holds Inv-loop μ-loop
 unfolding signBefore
 loop-holds c = (search needs, refl, below-none _)
 
-judged : (c : tie.After-fault Inv-loop μ-loop) → goodAt (c .before .before .before .before .before .args .text .now) (c .before .before .before .loop .k) ≡ not (c .fault .result)
-judged c = good-is _ _ _ (c .before .before .loop-test .taken) (c .before .before .before .loop .inv .1) ∙ ap not (sym (c .fault .ensures))
+module _ (c : tie.After-fault Inv-loop μ-loop) where
+  abbrev turn : tie.At-loop Inv-loop μ-loop
+  turn = c .before .before .before
+
+  judged : goodAt (turn .before .before .args .text .now) (turn .loop .k) ≡ not (c .fault .result)
+  judged = good-is _ _ _ (c .before .before .loop-test .taken) (turn .loop .inv .1) ∙ ap not (sym (c .fault .ensures))
 
 returns : tie.Need-returns Inv-loop μ-loop
 unfolding firstFault
@@ -33,8 +37,9 @@ returns c =
 
 loop-again : tie.Need-loop-again Inv-loop μ-loop
 loop-again c =
-    let b = c .before .before .before .before .before in
-    let h = c .before .before .before .before .loop-test .taken in
+    let tested = c .before .before .before .before in
+    let b = tested .before in
+    let h = tested .loop-test .taken in
     let good = judged (c .before .before) ∙ ap not (c .before .if1 .left) in
     (search needs, sign-next _ _ _ _ h (b .loop .inv .1) (c .sign-after .ensures), below-more _ _ (b .loop .inv .2) good)
 

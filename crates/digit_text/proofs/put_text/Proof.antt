@@ -32,8 +32,9 @@ together w n d e = rw e
 
 returns : tie.Need-returns Inv-loop μ-loop
 returns c =
-    let e : c .before .loop .k ≡ c .before .before .before .before .args .n = omega arith in
-    rw e at (c .before .loop .inv .2) ∙ together _ _ _ (c .before .before .before .before .pre .0)
+    let s = c .before .before .before .before in
+    let e : c .before .loop .k ≡ s .args .n = omega arith in
+    rw e at (c .before .loop .inv .2) ∙ together _ _ _ (s .pre .0)
 
 pub put-text-spec : {M : Type 1} → statement M
 put-text-spec =

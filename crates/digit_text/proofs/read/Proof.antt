@@ -10,8 +10,13 @@ use Rattle.digit_text.proofs.read.Tie as tie
 checked : (c : tie.After-read-check) → c .read-check .result ≡ readCheck (c .before .before .args .text .now) (c .before .before .args .unit)
 checked c = c .read-check .ensures ∙ rw (toZ-ofZ (c .before .before .fits .unit))
 
-made : (c : tie.After-read-word) → let a = c .before .before .before .before .before .args in c .read-word .result ≡ readWord (a .text .now) (a .unit)
-made c = c .read-word .ensures ∙ rw (toZ-ofZ (c .before .before .before .before .before .fits .unit))
+-- the place where the check was passed, before a word is made
+module _ (c : tie.After-read-word) where
+  abbrev passed : tie.After-read-check
+  passed = c .before .before .before
+
+  made : let a = passed .before .before .args in c .read-word .result ≡ readWord (a .text .now) (a .unit)
+  made = c .read-word .ensures ∙ rw (toZ-ofZ (passed .before .before .fits .unit))
 
 read-word-requires : tie.Need-read-word-requires
 read-word-requires c κs = sym (c .before .before .read-check .ensures) ∙ c .enum-told .given .1
@@ -19,14 +24,24 @@ read-word-requires c κs = sym (c .before .before .read-check .ensures) ∙ c .e
 returns : tie.Need-returns
 unfolding readOf
 returns c =
-    let b = c .before .before .before in
-    refused-into readAnswer roundBitRefused _ _ _ _ _ _ (checked (b .before .before)) (b .c .given .1) (c .before .round-bit-refused .ensures) (c .read-answer .ensures)
+    let b = c .before .before in
+    refused-into readAnswer roundBitRefused _ _ _ _ _ (checked (b .before .before)) (b .c .given .1) (c .read-refused .ensures)
 
 returns-2 : tie.Need-returns-2
 unfolding readOf
 returns-2 c =
-    let b = c .before .before in
-    done-into readAnswer roundBitRefused roundBitDone _ _ _ _ _ _ (checked (b .before .before .before)) (b .before .enum-told .given .1) (made b) (c .before .round-bit-done .ensures) (c .read-answer2 .ensures)
+    let b = c .before in
+    done-into readAnswer roundBitRefused roundBitDone _ _ _ _ _ (checked (passed b)) (b .before .enum-told .given .1) (made b) (c .read-done .ensures)
 
 pub read-spec : {M : Type 1} → statement M
-read-spec = tie.close (tie.spec (λ c κs. search needs) (λ c. search needs) (λ c κs. search needs) (λ c κs. search needs) (λ c. search needs) read-word-requires (λ c κs. search needs) (λ c κs. search needs) returns returns-2)
+read-spec =
+    tie.close
+    (tie.spec
+    (λ c κs. search needs)
+    (λ c. search needs)
+    (λ c κs. search needs)
+    (λ c. search needs)
+    read-word-requires
+    (λ c κs. search needs)
+    returns
+    returns-2)

@@ -8,8 +8,12 @@ use borrow.Author.Needs.{needs}
 use Rattle.digit_text.proofs.read_check.Statement.{statement}
 use Rattle.digit_text.proofs.read_check.Tie as tie
 
-unit-checked : (c : tie.After-refuse2) → c .refuse2 .result ≡ refuseFor Unit (badUnit (c .before .before .before .before .before .args .unit))
-unit-checked c = c .refuse2 .ensures ∙ rw (toZ-ofZ (c .before .before .before .before .before .fits .unit))
+module _ (c : tie.After-refuse2) where
+  abbrev s : tie.Start
+  s = c .before .before .before .before .before
+
+  unit-checked : c .refuse2 .result ≡ refuseFor Unit (badUnit (s .args .unit))
+  unit-checked = c .refuse2 .ensures ∙ rw (toZ-ofZ (s .fits .unit))
 
 returns : tie.Need-returns
 unfolding readCheck
@@ -25,7 +29,14 @@ returns-3 : tie.Need-returns-3
 unfolding readCheck faulty
 returns-3 c =
     let b = c .before .before .before .before in
-    rw (← b .before .before .before .refuse .ensures, b .before .enum-told .given .1, ← unit-checked b, c .before .before .enum-told2 .given .1, c .refuse3 .ensures, c .before .first-fault .ensures)
+    rw (
+      ← b .before .before .before .refuse .ensures,
+      b .before .enum-told .given .1,
+      ← unit-checked b,
+      c .before .before .enum-told2 .given .1,
+      c .refuse3 .ensures,
+      c .before .first-fault .ensures,
+    )
 
 pub read-check-spec : {M : Type 1} → statement M
 read-check-spec =

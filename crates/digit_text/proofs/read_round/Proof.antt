@@ -23,7 +23,8 @@ loop-holds c = (search needs, refl)
 loop-again : tie.Need-loop-again Inv-loop μ-loop
 loop-again c = (search needs, sign-next _ _ _ _ (c .before .before .loop-test .taken) (c .before .before .before .loop .inv .1) (c .sign-after .ensures))
 
-at-end : (c : tie.After-loop Inv-loop μ-loop) → signBefore (c .before .before .before .args .text .now) (length (c .before .before .before .args .text .now)) ≡ c .before .loop .before
+at-end : (c : tie.After-loop Inv-loop μ-loop) →
+    signBefore (c .before .before .before .args .text .now) (length (c .before .before .before .args .text .now)) ≡ c .before .loop .before
 at-end c =
     let e : c .before .loop .k ≡ length (c .before .before .before .args .text .now) = omega arith in
     rw (← e) (sym (c .before .loop .inv .1))

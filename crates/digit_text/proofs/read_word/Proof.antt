@@ -35,7 +35,14 @@ sub-number c = rw (toZ-ofZ (record { sfits = c .text-value .ok }), c .text-value
 returns : tie.Need-returns
 unfolding readWord
 returns c =
-    rw (toZ-ofZ (sub-number c), toZ-ofZ (record { sfits = c .text-value .ok }), c .text-value .ensures, bit c, c .before .read-round .ensures, toZ-ofZ (c .before .before .before .fits .unit))
+    rw (
+      toZ-ofZ (sub-number c),
+      toZ-ofZ (record { sfits = c .text-value .ok }),
+      c .text-value .ensures,
+      bit c,
+      c .before .read-round .ensures,
+      toZ-ofZ (c .before .before .before .fits .unit),
+    )
 
 pub read-word-spec : {M : Type 1} → statement M
 read-word-spec =

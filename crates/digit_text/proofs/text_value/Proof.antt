@@ -41,7 +41,8 @@ module _ (c : tie.In-loop Inv-loop μ-loop) where
       omega (ints, small, abs-law v, abs-law d, times-law (pos 2) v, plus-law (pos 2 *ℤ v) d)
 
 add-value : tie.Need-add-value Inv-loop μ-loop
-add-value c = rw (toZ-ofZ (twice (c .before .before)), toZ-ofZ (record { sfits = c .digit-of .ok }), c .digit-of .ensures) (next (c .before .before) _ (digit-range _))
+add-value c =
+    rw (toZ-ofZ (twice (c .before .before)), toZ-ofZ (record { sfits = c .digit-of .ok }), c .digit-of .ensures) (next (c .before .before) _ (digit-range _))
 
 loop-again : tie.Need-loop-again Inv-loop μ-loop
 loop-again c =

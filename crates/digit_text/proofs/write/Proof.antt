@@ -9,8 +9,12 @@ use borrow.Author.Needs.{needs}
 use Rattle.digit_text.proofs.write.Statement.{statement}
 use Rattle.digit_text.proofs.write.Tie as tie
 
-passed : (c : tie.After-enum-told) → writeCheck (c .before .before .before .before .args .w) (length (c .before .before .before .before .args .text .now)) ≡ Done
-passed c = sym (c .before .before .write-check .ensures) ∙ c .enum-told .given .1
+module _ (c : tie.After-enum-told) where
+  abbrev s : tie.Start
+  s = c .before .before .before .before
+
+  passed : writeCheck (s .args .w) (length (s .args .text .now)) ≡ Done
+  passed = sym (c .before .before .write-check .ensures) ∙ c .enum-told .given .1
 
 put-text-requires : tie.Need-put-text-requires
 put-text-requires c κs = (refl, write-room _ _ (passed (c .before .before)))
@@ -24,7 +28,8 @@ returns c =
 returns-2 : tie.Need-returns-2
 unfolding writeAnswer writeOf lentAfter text bufferOf
 returns-2 c =
-    let p = passed (c .before .before .before .before .before) in
+    let told = c .before .before .before .before .before in
+    let p = passed told in
     (rw p, rw p (c .before .before .put-text .ensures ∙ over-front _ _ _))
 
 pub write-spec : {M : Type 1} → statement M

@@ -9,7 +9,9 @@ returns c = rw (← c .before .before .before .round-bit-check .ensures, c .befo
 
 returns-2 : tie.Need-returns-2
 unfolding writeCheck
-returns-2 c = rw (← c .before .before .before .before .round-bit-check .ensures, c .before .before .enum-told .given .1, c .refuse .ensures)
+returns-2 c =
+    let told = c .before .before in
+    rw (← told .before .before .round-bit-check .ensures, told .enum-told .given .1, c .refuse .ensures)
 
 pub write-check-spec : {M : Type 1} → statement M
 write-check-spec =

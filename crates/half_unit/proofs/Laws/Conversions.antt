@@ -24,7 +24,9 @@ use Rattle.words.proofs.Formats.{narrower-passes, narrower-wider}
 use Rattle.words.proofs.Rights.{cleared-right, doubled-right}
 use Rattle.words.proofs.Operands.{done-passed, wider-right}
 use Rattle.half_unit.specs.Cuts.{cutWord}
-use Rattle.half_unit.specs.Conversions.{fromPlainCheck, fromPlainUpWord, fromPlainUpOf, evenFloor, fromPlainEvenWord, fromPlainEvenOf, toPlainWord, toPlainCheck, toPlainOf, toRoundBitWord, toRoundBitOf, fromRoundBitWord, fromRoundBitCheck, fromRoundBitOf, interval}
+use Rattle.half_unit.specs.Conversions.{fromPlainCheck, fromPlainUpWord, fromPlainUpOf, evenFloor, fromPlainEvenWord, fromPlainEvenOf, toPlainWord}
+use Rattle.half_unit.specs.Conversions.{toPlainCheck, toPlainOf, toRoundBitWord, toRoundBitOf}
+use Rattle.half_unit.specs.Conversions.{fromRoundBitWord, fromRoundBitCheck, fromRoundBitOf, interval}
 use Rattle.half_unit.proofs.Laws.Cuts.{floor-moves, answer-closed, cut-word-passes}
 
 -- ---- the two rules agree where a dropped digit is 1; elsewhere the even rule clears the lowest digit
@@ -32,12 +34,14 @@ pub from-plain-agree : (w : PlainWord) (d : ℕ) → (anyBelow (w .number .0) d 
 unfolding fromPlainEvenWord fromPlainUpWord evenFloor
 from-plain-agree w d n = rw (ne-eqb (anyBelow (w .number .0) d) 0 n)
 
-from-plain-cleared : (w : PlainWord) (d : ℕ) → anyBelow (w .number .0) d ≡ 0 → fromPlainEvenWord w d ≡ halfUnitWord (cleared (floorBy (w .number .0) d)) (narrower (w .format) d)
+from-plain-cleared : (w : PlainWord) (d : ℕ) → anyBelow (w .number .0) d ≡ 0 →
+    fromPlainEvenWord w d ≡ halfUnitWord (cleared (floorBy (w .number .0) d)) (narrower (w .format) d)
 unfolding fromPlainEvenWord evenFloor
 from-plain-cleared w d z = rw z
 
 -- so a fact of the even rule is one of the up rule and one of where every dropped digit is 0
-by-even-rule : (w : PlainWord) (d : ℕ) (Q : HalfUnitWord → Type 0) → (anyBelow (w .number .0) d ≡ 0 → Q (fromPlainEvenWord w d)) → Q (fromPlainUpWord w d) → Q (fromPlainEvenWord w d)
+by-even-rule : (w : PlainWord) (d : ℕ) (Q : HalfUnitWord → Type 0) → (anyBelow (w .number .0) d ≡ 0 → Q (fromPlainEvenWord w d)) → Q (fromPlainUpWord w d) →
+    Q (fromPlainEvenWord w d)
 by-even-rule w d Q tie up = go (anyBelow (w .number .0) d) refl
   where
     go : (n : ℕ) → anyBelow (w .number .0) d ≡ n → Q (fromPlainEvenWord w d)
@@ -125,10 +129,12 @@ pub from-plain-even-value : (w : PlainWord) (d : ℕ) → natAbs ((halfUnitValue
 from-plain-even-value w d =
     by-even-rule w d (λ u. moved w d u ≤ 2 ^ d) (λ z. omega (arith, even-moves w d z)) (from-plain-up-value w d)
 
-pub from-plain-up-tie : (w : PlainWord) (d : ℕ) → natAbs ((halfUnitValue (fromPlainUpWord w d) *ℤ pos (2 ^ d)) -ℤ plainValue w) ≡ 2 ^ d → anyBelow (w .number .0) d ≡ 0
+pub from-plain-up-tie : (w : PlainWord) (d : ℕ) → natAbs ((halfUnitValue (fromPlainUpWord w d) *ℤ pos (2 ^ d)) -ℤ plainValue w) ≡ 2 ^ d →
+    anyBelow (w .number .0) d ≡ 0
 from-plain-up-tie w d t = some-below (w .number .0) d (omega (arith, up-moves w d, below-range (w .number .0) d))
 
-pub from-plain-even-tie : (w : PlainWord) (d : ℕ) → natAbs ((halfUnitValue (fromPlainEvenWord w d) *ℤ pos (2 ^ d)) -ℤ plainValue w) ≡ 2 ^ d → anyBelow (w .number .0) d ≡ 0
+pub from-plain-even-tie : (w : PlainWord) (d : ℕ) → natAbs ((halfUnitValue (fromPlainEvenWord w d) *ℤ pos (2 ^ d)) -ℤ plainValue w) ≡ 2 ^ d →
+    anyBelow (w .number .0) d ≡ 0
 from-plain-even-tie w d t =
     by-even-rule w d (λ u. moved w d u ≡ 2 ^ d → anyBelow (w .number .0) d ≡ 0) (λ z s. z) (from-plain-up-tie w d) t
 
@@ -136,7 +142,8 @@ from-plain-even-tie w d t =
 pub from-plain-even-even : (w : PlainWord) (d : ℕ) → anyBelow (w .number .0) d ≡ 0 → lowest (fromPlainEvenWord w d .number .0) ≡ 0
 from-plain-even-even w d z = rw (from-plain-cleared w d z) (lowest-cleared (floorBy (w .number .0) d))
 
-pub from-plain-up-greater : (w : PlainWord) (d : ℕ) → anyBelow (w .number .0) d ≡ 0 → halfUnitValue (fromPlainUpWord w d) *ℤ pos (2 ^ d) ≡ plainValue w +ℤ pos (2 ^ d)
+pub from-plain-up-greater : (w : PlainWord) (d : ℕ) → anyBelow (w .number .0) d ≡ 0 →
+    halfUnitValue (fromPlainUpWord w d) *ℤ pos (2 ^ d) ≡ plainValue w +ℤ pos (2 ^ d)
 unfolding fromPlainUpWord
 from-plain-up-greater w d z =
     let x = w .number .0 in

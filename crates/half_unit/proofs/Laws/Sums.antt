@@ -19,7 +19,8 @@ use Rattle.words.specs.declared.HalfUnitWord.{HalfUnitWord}
 use Rattle.words.proofs.Laws.{RightFormat, Right, half-unit-passes, half-unit-law}
 use Rattle.words.proofs.Formats.{answer-right, answer-done}
 use Rattle.words.proofs.Operands.{both-right, right-both, operands-right, right-operands, fit-passes, done-passed, done-fits, outcome-kept}
-use Rattle.half_unit.specs.Arithmetic.{sumCheck, sumUpWord, sumUpOf, sumEvenWord, sumEvenOf, multiplied, productFormat, productWord, productCheck, productOf}
+use Rattle.half_unit.specs.Arithmetic.{sumCheck, sumUpWord, sumUpOf, sumEvenWord, sumEvenOf}
+use Rattle.half_unit.specs.Arithmetic.{multiplied, productFormat, productWord, productCheck, productOf}
 use Rattle.half_unit.proofs.Laws.Cuts.{answer-closed}
 
 -- ---- what the check of a sum tells, and that it does not look at the order
@@ -35,7 +36,8 @@ sum-check-comm x y c = let t = sum-tells x y c in right-operands (t .1) (t .0) (
 product-done : (x y : HalfUnitWord) → productOf x y .outcome ≡ Done → productCheck x y ≡ Done
 product-done x y e = done-passed halfUnitRefused (λ a. a .outcome) (λ c. refl) (productCheck x y) (halfUnitDone (productWord x y)) e
 
-product-tells : (x y : HalfUnitWord) → productCheck x y ≡ Done → Right (x .format) (x .number .0) 0 × Right (y .format) (y .number .0) 0 × RightFormat (productFormat (x .format) (y .format))
+product-tells : (x y : HalfUnitWord) → productCheck x y ≡ Done →
+    Right (x .format) (x .number .0) 0 × Right (y .format) (y .number .0) 0 × RightFormat (productFormat (x .format) (y .format))
 unfolding halfUnitCheck
 product-tells x y c =
     let f = productFormat (x .format) (y .format) in

@@ -1,9 +1,19 @@
 use Rattle.words.specs.HalfUnit.{halfUnitRefused, halfUnitDone}
-use Rattle.words.proofs.Arms.{arms, refused-into, done-into}
+use Rattle.words.proofs.Arms.{format-told, format-passed, refused-into, done-into}
 use Rattle.half_unit.specs.Cuts.{cutAnswer}
 use borrow.Author.Needs.{needs}
 use Rattle.half_unit.proofs.cut.Statement.{statement}
 use Rattle.half_unit.proofs.cut.Tie as tie
 
 pub cut-spec : {M : Type 1} → statement M
-cut-spec = tie.close (tie.spec (λ c κs. search needs) (λ c. search needs) (λ c κs. search needs) (λ c κs. search needs) (λ c. search needs) (λ c κs. search arms) (λ c κs. search needs) (λ c κs. search needs) (λ c. search (refused-into cutAnswer halfUnitRefused)) (λ c. search (done-into cutAnswer halfUnitRefused halfUnitDone)))
+cut-spec =
+    tie.close
+    (tie.spec
+    (λ c κs. search needs)
+    (λ c. search needs)
+    (λ c κs. search needs)
+    (λ c. search needs)
+    (λ c κs. format-passed _ _ _ (c .before .before .cut-format .ensures) (c .enum-told .given .1) .1)
+    (λ c κs. search needs)
+    (λ c. search (refused-into cutAnswer halfUnitRefused, format-told))
+    (λ c. search (done-into cutAnswer halfUnitRefused halfUnitDone, format-told)))

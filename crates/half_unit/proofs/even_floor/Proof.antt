@@ -17,11 +17,18 @@ returns : tie.Need-returns
 unfolding evenFloor
 returns c =
     let b = c .before .if1 .taken in
-    rw (toZ-ofZ (record { sfits = c .cleared .ok }), c .cleared .ensures, toZ-ofZ (record { sfits = c .before .before .before .floor-by .ok }), floor (c .before .before .before), eq-eqb _ 0 (sym (dropped (c .before .before)) ∙ b))
+    rw (
+      toZ-ofZ (record { sfits = c .cleared .ok }),
+      c .cleared .ensures,
+      toZ-ofZ (record { sfits = c .before .before .before .floor-by .ok }),
+      floor (c .before .before .before),
+      eq-eqb _ 0 (sym (dropped (c .before .before)) ∙ b),
+    )
 
 returns-2 : tie.Need-returns-2
 unfolding evenFloor
-returns-2 c = rw (toZ-ofZ (record { sfits = c .before .before .floor-by .ok }), floor (c .before .before), ne-eqb _ 0 (λ e. c .if1 .left (dropped (c .before) ∙ e)))
+returns-2 c =
+    rw (toZ-ofZ (record { sfits = c .before .before .floor-by .ok }), floor (c .before .before), ne-eqb _ 0 (λ e. c .if1 .left (dropped (c .before) ∙ e)))
 
 pub even-floor-spec : {M : Type 1} → statement M
 even-floor-spec = tie.close (tie.spec (λ c κs. search needs) (λ c κs. search needs) (λ c κs. search needs) returns returns-2)

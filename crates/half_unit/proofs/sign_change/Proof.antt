@@ -5,4 +5,14 @@ use Rattle.half_unit.proofs.sign_change.Statement.{statement}
 use Rattle.half_unit.proofs.sign_change.Tie as tie
 
 pub sign-change-spec : {M : Type 1} → statement M
-sign-change-spec = tie.close (tie.spec (λ c κs. search needs) (λ c. search needs) (λ c κs. search needs) (λ c. search needs) (λ c κs. search needs) (λ c κs. search needs) (λ c. search arms) (λ c. search (answering halfUnitRefused halfUnitDone)))
+sign-change-spec =
+    tie.close
+    (tie.spec
+    (λ c κs. search needs)
+    (λ c. search needs)
+    (λ c κs. search needs)
+    (λ c. search needs)
+    (λ c κs. search needs)
+    (λ c κs. search needs)
+    (λ c. search arms)
+    (λ c. search (answering halfUnitRefused halfUnitDone)))

@@ -5,4 +5,14 @@ use Rattle.half_unit.proofs.sum_even.Statement.{statement}
 use Rattle.half_unit.proofs.sum_even.Tie as tie
 
 pub sum-even-spec : {M : Type 1} → statement M
-sum-even-spec = tie.close (tie.spec (λ c κs. search needs) (λ c. search needs) (λ c κs. search needs) (λ c. search needs) (λ c κs. search arms) (λ c κs. search needs) (λ c. search arms) (λ c. search (answering halfUnitRefused halfUnitFitted)))
+sum-even-spec =
+    tie.close
+    (tie.spec
+    (λ c κs. search needs)
+    (λ c. search needs)
+    (λ c κs. search needs)
+    (λ c. search needs)
+    (λ c κs. search arms)
+    (λ c κs. search needs)
+    (λ c. search arms)
+    (λ c. search (answering halfUnitRefused halfUnitFitted)))

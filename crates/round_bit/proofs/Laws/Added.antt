@@ -34,7 +34,9 @@ pub added-comm : (m n : RoundBit) → added m n ≡ added n m
 added-comm m n = rw (+ℤ-comm (m .0) (n .0), and-comm (m .1) (n .1), or-comm (m .1) (n .1))
 
 -- two sums of i and j round bits, less 1 where there is any, are one of i + j
-pub added-counts : (a b : ℤ) (i j : ℕ) → added (record { 0 = a +ℤ pos (i - 1); 1 = min i 1 }) (record { 0 = b +ℤ pos (j - 1); 1 = min j 1 }) ≡ record { 0 = (a +ℤ b) +ℤ pos (i + j - 1); 1 = min (i + j) 1 }
+pub added-counts : (a b : ℤ) (i j : ℕ) →
+    added (record { 0 = a +ℤ pos (i - 1); 1 = min i 1 }) (record { 0 = b +ℤ pos (j - 1); 1 = min j 1 }) ≡ record
+    { 0 = (a +ℤ b) +ℤ pos (i + j - 1); 1 = min (i + j) 1 }
 added-counts a b i j =
     let x = a +ℤ pos (i - 1) in
     let y = b +ℤ pos (j - 1) in
@@ -58,7 +60,8 @@ added-counts a b i j =
     λ k. record { 0 = number k; 1 = bit k }
 
 -- -(m + n) and (-m) + (-n) have one value
-pub added-signs : (m n : RoundBit) → m .1 ≤ 1 → n .1 ≤ 1 → signChanged (added m n) .0 +ℤ pos (signChanged (added m n) .1) ≡ added (signChanged m) (signChanged n) .0 +ℤ pos (added (signChanged m) (signChanged n) .1)
+pub added-signs : (m n : RoundBit) → m .1 ≤ 1 → n .1 ≤ 1 →
+    signChanged (added m n) .0 +ℤ pos (signChanged (added m n) .1) ≡ added (signChanged m) (signChanged n) .0 +ℤ pos (added (signChanged m) (signChanged n) .1)
 added-signs m n h k =
     rw (
       signs-value (added m n) (added-bit m n h k),

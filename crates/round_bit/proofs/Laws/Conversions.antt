@@ -50,7 +50,8 @@ from-to-plain w e =
     let g = right (w .format) (w .number .0) 0 e in
     rw (e, +ℤ-idr (w .number .0), fit-passes (w .format) (w .number .0) (g .size))
 
-pub to-plain-refuses : (w : RoundBitWord) → roundBitCheck w ≡ Done → (toPlainOf w .outcome ≡ Done) ⊎ ((toPlainOf w .outcome ≡ refuse 8 true) × (w .number .0 +ℤ pos (w .number .1) ≡ pos (2 ^ (w .format .width - 1))))
+pub to-plain-refuses : (w : RoundBitWord) → roundBitCheck w ≡ Done →
+    (toPlainOf w .outcome ≡ Done) ⊎ ((toPlainOf w .outcome ≡ refuse 8 true) × (w .number .0 +ℤ pos (w .number .1) ≡ pos (2 ^ (w .format .width - 1))))
 unfolding toPlainWord plainFitted roundBitCheck
 to-plain-refuses w e = told (fitsWidth a (w .format .width)) refl
   where
@@ -66,6 +67,7 @@ to-plain-refuses w e = told (fitsWidth a (w .format .width)) refl
         let g = right (w .format) (w .number .0) (w .number .1) e in
         inr (rw (e, f), carry-past (w .number .0) (w .number .1) p (g .size) (g .bit) (ltb-false (mag a) p (sym (fits-is a (w .format .width)) ∙ f)))
 
-pub to-plain-past : (w : RoundBitWord) → roundBitCheck w ≡ Done → w .number .0 +ℤ pos (w .number .1) ≡ pos (2 ^ (w .format .width - 1)) → toPlainOf w .outcome ≡ refuse 8 true
+pub to-plain-past : (w : RoundBitWord) → roundBitCheck w ≡ Done → w .number .0 +ℤ pos (w .number .1) ≡ pos (2 ^ (w .format .width - 1)) →
+    toPlainOf w .outcome ≡ refuse 8 true
 unfolding toPlainWord plainFitted
 to-plain-past w e h = let n = w .format .width in rw (e, h, fits-is (pos (2 ^ (n - 1))) n, le-ltb (2 ^ (n - 1)) (2 ^ (n - 1)) (omega arith))

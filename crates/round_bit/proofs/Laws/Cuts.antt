@@ -148,7 +148,8 @@ cut-sign w d e =
 pub rest-refuses : (w : RoundBitWord) (d : ℕ) → restOf w d .outcome ≡ cutOf w d .outcome
 rest-refuses w d = word-outcome (cutCheck w d) (restWord w d) ∙ sym (word-outcome (cutCheck w d) (cutWord w d))
 
-pub rest-value : (w : RoundBitWord) (d : ℕ) → cutOf w d .outcome ≡ Done → (roundBitValue (cutOf w d .word) *ℤ pos (2 ^ d)) +ℤ roundBitValue (restOf w d .word) ≡ roundBitValue w
+pub rest-value : (w : RoundBitWord) (d : ℕ) → cutOf w d .outcome ≡ Done →
+    (roundBitValue (cutOf w d .word) *ℤ pos (2 ^ d)) +ℤ roundBitValue (restOf w d .word) ≡ roundBitValue w
 rest-value w d e = rw (cut-done w d e .1, rest-done w d (rest-refuses w d ∙ e) .1) (rest-adds-back w d)
 
 pub rest-small : (w : RoundBitWord) (d : ℕ) → cutOf w d .outcome ≡ Done → natAbs (roundBitValue (restOf w d .word)) ≤ 2 ^ d

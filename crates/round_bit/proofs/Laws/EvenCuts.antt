@@ -50,14 +50,17 @@ floor-moves a s d =
 still : (v : ℤ) → natAbs ((v *ℤ pos 1) -ℤ v) ≡ 0
 still v = let z = (v *ℤ pos 1) -ℤ v in omega (arith, abs-law z, one-zero z, minus-law (v *ℤ pos 1) v, times-law v (pos 1))
 
-pub even-cut-value : (w : RoundBitWord) (d : ℕ) → evenCutOf w d .outcome ≡ Done → w .number .1 ≡ 0 → natAbs ((roundBitValue (evenCutOf w d .word) *ℤ pos (2 ^ d)) -ℤ roundBitValue w) ≤ 2 ^ d
+pub even-cut-value : (w : RoundBitWord) (d : ℕ) → evenCutOf w d .outcome ≡ Done → w .number .1 ≡ 0 →
+    natAbs ((roundBitValue (evenCutOf w d .word) *ℤ pos (2 ^ d)) -ℤ roundBitValue w) ≤ 2 ^ d
 unfolding cutBy evenRoundBit
 even-cut-value w zero e z = rw (even-cut-done w zero e .1) (omega (arith, still (roundBitValue w)))
 even-cut-value w (suc k) e z =
     let a = w .number .0 in
     rw (even-cut-done w (suc k) e .1, z, floor-moves a (evenRoundBit a k) (suc k)) (omega (arith, even-rounds (even-bit a k) .near, pow-succ' 2 k))
 
-pub even-cut-tie : (w : RoundBitWord) (d : ℕ) → evenCutOf w d .outcome ≡ Done → w .number .1 ≡ 0 → natAbs ((roundBitValue (evenCutOf w d .word) *ℤ pos (2 ^ d)) -ℤ roundBitValue w) ≡ 2 ^ d → lowest (evenCutOf w d .word .number .0 +ℤ pos (evenCutOf w d .word .number .1)) ≡ 0
+pub even-cut-tie : (w : RoundBitWord) (d : ℕ) → evenCutOf w d .outcome ≡ Done → w .number .1 ≡ 0 →
+    natAbs ((roundBitValue (evenCutOf w d .word) *ℤ pos (2 ^ d)) -ℤ roundBitValue w) ≡ 2 ^ d →
+    lowest (evenCutOf w d .word .number .0 +ℤ pos (evenCutOf w d .word .number .1)) ≡ 0
 unfolding cutBy evenRoundBit digit
 even-cut-tie w zero e z t = let none = rw (even-cut-done w zero e .1) at t in absurd (omega (arith, still (roundBitValue w)))
 even-cut-tie w (suc k) e z t =

@@ -16,7 +16,8 @@ use Rattle.round_bit.specs.Arithmetic.{magnitudeProduct, negative, signC
 use Rattle.round_bit.proofs.Laws.Signs.{signs-value, signs-if-bit, signs-if-size, signs-if-not, signs-if-not-twice, turned-sign, magnitude-is-size}
 
 -- ---- numbers that are not negative (000, Definition 10): the fit, and the value a + r times b + s
-pub magnitude-product-fits : (a b r s i j : ℕ) → a < 2 ^ i → b < 2 ^ j → r ≤ 1 → s ≤ 1 → mag (magnitudeProduct (record { 0 = pos a; 1 = r }) (record { 0 = pos b; 1 = s }) .0) < 2 ^ (i + j)
+pub magnitude-product-fits : (a b r s i j : ℕ) → a < 2 ^ i → b < 2 ^ j → r ≤ 1 → s ≤ 1 →
+    mag (magnitudeProduct (record { 0 = pos a; 1 = r }) (record { 0 = pos b; 1 = s }) .0) < 2 ^ (i + j)
 unfolding magnitudeProduct
 magnitude-product-fits a b r s i j h k l m = product-size a b r s i j h k l m
 
@@ -25,7 +26,8 @@ and-times zero s h k = omega (arith, and-le-l 0 s)
 and-times (suc zero) s h k = omega (arith, or-add-and 1 s, or-lt 1 1 s (omega arith) (omega arith), and-le-r 1 s)
 and-times (suc (suc r)) s h k = absurd (omega arith)
 
-pub magnitude-product-value : (m n : RoundBit) → m .1 ≤ 1 → n .1 ≤ 1 → magnitudeProduct m n .0 +ℤ pos (magnitudeProduct m n .1) ≡ (m .0 +ℤ pos (m .1)) *ℤ (n .0 +ℤ pos (n .1))
+pub magnitude-product-value : (m n : RoundBit) → m .1 ≤ 1 → n .1 ≤ 1 →
+    magnitudeProduct m n .0 +ℤ pos (magnitudeProduct m n .1) ≡ (m .0 +ℤ pos (m .1)) *ℤ (n .0 +ℤ pos (n .1))
 unfolding magnitudeProduct
 magnitude-product-value m n h k =
     let a = m .0 in
@@ -82,7 +84,8 @@ multiplied-value m n h k = go (negative m) (negative n)
     p : Bool → Bool → RoundBit
     p c d = magnitudeProduct (signChangedIf c m) (signChangedIf d n)
 
-    of-p : (c d : Bool) → p c d .0 +ℤ pos (p c d .1) ≡ (signChangedIf c m .0 +ℤ pos (signChangedIf c m .1)) *ℤ (signChangedIf d n .0 +ℤ pos (signChangedIf d n .1))
+    of-p : (c d : Bool) →
+        p c d .0 +ℤ pos (p c d .1) ≡ (signChangedIf c m .0 +ℤ pos (signChangedIf c m .1)) *ℤ (signChangedIf d n .0 +ℤ pos (signChangedIf d n .1))
     of-p c d = magnitude-product-value (signChangedIf c m) (signChangedIf d n) (signs-if-bit c m h) (signs-if-bit d n k)
 
     turned-p : (c d : Bool) → signChanged (p c d) .0 +ℤ pos (signChanged (p c d) .1) ≡ negℤ (p c d .0 +ℤ pos (p c d .1))

@@ -17,7 +17,8 @@ use Rattle.round_bit.specs.Cuts.{signChanged, signChangeWord, signChange
 use Rattle.round_bit.specs.Arithmetic.{multiplied, productFormat, productWord, productCheck, productOf}
 use Rattle.round_bit.proofs.Laws.Signs.{signs-twice, signs-right}
 use Rattle.round_bit.proofs.Checks.{word-done}
-use Rattle.round_bit.proofs.Laws.Multiplied.{multiplied-bit, multiplied-size, multiplied-value, multiplied-comm, multiplied-sign-first, multiplied-sign-second}
+use Rattle.round_bit.proofs.Laws.Multiplied.{multiplied-bit, multiplied-size, multiplied-value}
+use Rattle.round_bit.proofs.Laws.Multiplied.{multiplied-comm, multiplied-sign-first, multiplied-sign-second}
 
 -- ---- what the check of a product tells, and what it asks
 record Factors (x y : RoundBitWord) : Type 0 where

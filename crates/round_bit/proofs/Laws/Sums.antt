@@ -145,13 +145,16 @@ sum-grouped (one n) h =
 sum-grouped (both s t) h = rw (sum-grouped s (h .0), sum-grouped t (h .1)) (added-counts (numbers s) (numbers t) (roundBits s) (roundBits t))
 
 -- ---- -(x + y) and (-x) + (-y) have the same value, and the pair (0,0), (0,1) has not the same digits
-pub sum-sign-value : (x y : RoundBitWord) → sumOf x y .outcome ≡ Done → roundBitValue (signChangeWord (sumWord x y)) ≡ roundBitValue (sumWord (signChangeWord x) (signChangeWord y))
+pub sum-sign-value : (x y : RoundBitWord) → sumOf x y .outcome ≡ Done →
+    roundBitValue (signChangeWord (sumWord x y)) ≡ roundBitValue (sumWord (signChangeWord x) (signChangeWord y))
 unfolding sumWord signChangeWord value
 sum-sign-value x y e =
     let g = answer-operands x y y e in
     ap (λ (z : ℤ). pos 2 *ℤ z) (added-signs (x .number) (y .number) (g .first .bit) (g .second .bit))
 
-pub sum-sign-digits : (f : Format) → signChangeWord (sumWord (roundBitWord (pos 0) 0 f) (roundBitWord (pos 0) 1 f)) ≡ sumWord (signChangeWord (roundBitWord (pos 0) 0 f)) (signChangeWord (roundBitWord (pos 0) 1 f)) → ⊥
+pub sum-sign-digits : (f : Format) →
+    signChangeWord (sumWord (roundBitWord (pos 0) 0 f) (roundBitWord (pos 0) 1 f)) ≡ sumWord (signChangeWord (roundBitWord (pos 0) 0 f))
+    (signChangeWord (roundBitWord (pos 0) 1 f)) → ⊥
 unfolding sumWord signChangeWord
 sum-sign-digits f e = let bit : _≡_ {A = ℕ} 0 1 = ap (λ (w : RoundBitWord). w .number .1) e in omega arith
 

@@ -16,10 +16,22 @@ sign-change-word-requires c κs = sum-passed (c .before .before .before .args .x
 
 sum-word-requires : tie.Need-sum-word-requires
 sum-word-requires c κs =
-    rw (c .sign-change-word .ensures) (sum-sign-passed (c .before .before .before .before .args .x) (c .before .before .before .before .args .y) (passed (c .before)))
+    let s = c .before .before .before .before in
+    rw (c .sign-change-word .ensures) (sum-sign-passed (s .args .x) (s .args .y) (passed (c .before)))
 
 returns-2 : tie.Need-returns-2
 returns-2 c = rw (c .round-bit-fitted .ensures, c .before .sum-word .ensures, c .before .before .sign-change-word .ensures, passed (c .before .before .before))
 
 pub difference-spec : {M : Type 1} → statement M
-difference-spec = tie.close (tie.spec (λ c κs. search needs) (λ c. search needs) (λ c κs. search needs) (λ c. search needs) sign-change-word-requires sum-word-requires (λ c κs. search needs) (λ c. search arms) returns-2)
+difference-spec =
+    tie.close
+    (tie.spec
+    (λ c κs. search needs)
+    (λ c. search needs)
+    (λ c κs. search needs)
+    (λ c. search needs)
+    sign-change-word-requires
+    sum-word-requires
+    (λ c κs. search needs)
+    (λ c. search arms)
+    returns-2)

@@ -23,7 +23,9 @@ add-t4 c =
     rw (toZ-ofZ (s .first), toZ-ofZ (s .second)) (s .two)
 
 cast-t6 : tie.Need-cast-t6
-cast-t6 c = let b = c .before .before .before .before .before .before .before in fits (b .args .x) (b .args .y) (b .pre) .carry
+cast-t6 c =
+    let b = c .before .before .before .before .before .before .before in
+    fits (b .args .x) (b .args .y) (b .pre) .carry
 
 add-t7 : tie.Need-add-t7
 add-t7 c =

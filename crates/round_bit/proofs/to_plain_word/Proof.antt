@@ -25,14 +25,16 @@ whole w e =
 
 add-t4 : tie.Need-add-t4
 add-t4 c =
-    let g = round-bit-right (c .before .before .before .before .args .w) (c .before .before .before .before .pre) in
-    rw (toZ-ofZ (machine g), bit (c .before .before .before .before .args .w) (c .before .before .before .before .pre)) (whole (c .before .before .before .before .args .w) (c .before .before .before .before .pre))
+    let s = c .before .before .before .before in
+    let g = round-bit-right (s .args .w) (s .pre) in
+    rw (toZ-ofZ (machine g), bit (s .args .w) (s .pre)) (whole (s .args .w) (s .pre))
 
 returns : tie.Need-returns
 unfolding toPlainWord
 returns c =
-    let g = round-bit-right (c .before .before .before .before .args .w) (c .before .before .before .before .pre) in
-    rw (toZ-ofZ (machine g), bit (c .before .before .before .before .args .w) (c .before .before .before .before .pre), toZ-ofZ (whole (c .before .before .before .before .args .w) (c .before .before .before .before .pre)))
+    let s = c .before .before .before .before in
+    let g = round-bit-right (s .args .w) (s .pre) in
+    rw (toZ-ofZ (machine g), bit (s .args .w) (s .pre), toZ-ofZ (whole (s .args .w) (s .pre)))
 
 pub to-plain-word-spec : {M : Type 1} → statement M
 to-plain-word-spec = tie.close (tie.spec (λ c. search needs) add-t4 returns)

@@ -1,8 +1,18 @@
 use Rattle.words.specs.RoundBit.{roundBitRefused, roundBitDone}
-use Rattle.words.proofs.Arms.{arms, answering}
+use Rattle.words.proofs.Arms.{format-told, format-passed, refusing, answering}
 use borrow.Author.Needs.{needs}
 use Rattle.round_bit.proofs.widen.Statement.{statement}
 use Rattle.round_bit.proofs.widen.Tie as tie
 
 pub widen-spec : {M : Type 1} → statement M
-widen-spec = tie.close (tie.spec (λ c κs. search needs) (λ c. search needs) (λ c κs. search needs) (λ c. search needs) (λ c κs. search arms) (λ c κs. search needs) (λ c. search arms) (λ c. search (answering roundBitRefused roundBitDone)))
+widen-spec =
+    tie.close
+    (tie.spec
+    (λ c κs. search needs)
+    (λ c. search needs)
+    (λ c κs. search needs)
+    (λ c. search needs)
+    (λ c κs. format-passed _ _ _ (c .before .before .widen-format .ensures) (c .enum-told .given .1))
+    (λ c κs. search needs)
+    (λ c. search (refusing roundBitRefused, format-told))
+    (λ c. search (answering roundBitRefused roundBitDone, format-told)))

@@ -9,10 +9,9 @@ use Rattle.words.specs.Formats.{wider}
 use Rattle.words.specs.declared.Outcome.the-variants.{Done}
 use Rattle.words.specs.declared.RoundBitWord.{RoundBitWord}
 use Rattle.words.proofs.Laws.{round-bit-right}
-use Rattle.words.proofs.Formats.{answer-format, answer-right}
+use Rattle.words.proofs.Formats.{answer-right}
 use Rattle.round_bit.specs.Cuts.{widenWord, widenCheck}
 use Rattle.round_bit.proofs.Checks.{widen-passed}
-use borrow.Author.Needs.{needs}
 use Rattle.round_bit.proofs.widen_word.Statement.{statement}
 use Rattle.round_bit.proofs.widen_word.Tie as tie
 
@@ -28,18 +27,11 @@ room w d e =
     )
 
 widened-requires : tie.Need-widened-requires
-widened-requires c κs = room (c .before .before .args .w) (c .before .before .args .d) (c .before .before .pre)
+widened-requires c κs = room (c .args .w) (c .args .d) (c .pre .0)
 
 returns : tie.Need-returns
 unfolding widenWord
-returns c =
-    let w = c .before .before .before .args .w in
-    rw (
-      c .before .before .wider .ensures,
-      answer-format _ _ (widen-passed w (c .before .before .before .args .d) (c .before .before .before .pre) .1),
-      toZ-ofZ (record { sfits = c .widened .ok }),
-      c .widened .ensures,
-    )
+returns c = rw (c .before .pre .1, toZ-ofZ (record { sfits = c .widened .ok }), c .widened .ensures)
 
 pub widen-word-spec : {M : Type 1} → statement M
-widen-word-spec = tie.close (tie.spec (λ c κs. search needs) widened-requires returns)
+widen-word-spec = tie.close (tie.spec widened-requires returns)

@@ -20,8 +20,11 @@ module _ (c : tie.After-struct-told) where
 
   steps : SFits w64 (c .before .before .before .args .n .0 +ℤ pos (c .before .before .before .args .n .1))
       × SFits w64 ((c .before .before .before .args .n .0 +ℤ pos (c .before .before .before .args .n .1)) *ℤ pos (2 ^ c .before .before .before .args .d))
-      × SFits w64 (((c .before .before .before .args .n .0 +ℤ pos (c .before .before .before .args .n .1)) *ℤ pos (2 ^ c .before .before .before .args .d)) -ℤ pos (c .before .before .before .args .n .1))
-  steps = let p = c .before .before .before .pre in widen-machine (c .before .before .before .args .n .0) (c .before .before .before .args .n .1) (c .before .before .before .args .d) (p .0) (p .1) (p .2)
+      × SFits w64 (((c .before .before .before .args .n .0 +ℤ pos (c .before .before .before .args .n .1)) *ℤ pos (2 ^ c .before .before .before .args .d)) -ℤ
+      pos (c .before .before .before .args .n .1))
+  steps =
+      let p = c .before .before .before .pre in widen-machine (c .before .before .before .args .n .0) (c .before .before .before .args .n .1)
+      (c .before .before .before .args .d) (p .0) (p .1) (p .2)
 
 add-result : tie.Need-add-result
 add-result c = rw (toZ-ofZ (number c), bit c) (steps c .0)
@@ -31,7 +34,8 @@ sub-result c = rw (toZ-ofZ (number c), bit c, times-machine (c .before .before .
 
 returns : tie.Need-returns
 returns c =
-    rw (toZ-ofZ (number c), bit c, times-machine (c .before .before .before .args .d) (steps c .0) (steps c .1)) (toZ-ofZ (steps c .2) ∙ widen-is (c .before .before .before .args .n .0) (c .before .before .before .args .n .1) (c .before .before .before .args .d))
+    rw (toZ-ofZ (number c), bit c, times-machine (c .before .before .before .args .d) (steps c .0) (steps c .1))
+    (toZ-ofZ (steps c .2) ∙ widen-is (c .before .before .before .args .n .0) (c .before .before .before .args .n .1) (c .before .before .before .args .d))
 
 pub widened-spec : {M : Type 1} → statement M
 widened-spec = tie.close (tie.spec (λ c. search needs) add-result (λ c. search needs) (λ c. search needs) sub-result returns)

@@ -9,11 +9,16 @@ use Rattle.running_sum.proofs.depth_check.Tie as tie
 
 returns : tie.Need-returns
 returns c =
-    depth-none (c .before .before .before .before .args .f) (c .before .before .before .before .args .d) _ (sym (c .before .before .before .refuse .ensures) ∙ c .before .c .given .1)
+    let asked = c .before .before .before in
+    let s = asked .before .args in
+    depth-none (s .f) (s .d) _ (sym (asked .refuse .ensures) ∙ c .before .c .given .1)
 
 returns-2 : tie.Need-returns-2
 returns-2 c =
-    rw (c .narrower .ensures, answer-outcome) (sym (depth-some (c .before .before .before .before .args .f) (c .before .before .before .before .args .d) (passed Depth _ (sym (c .before .before .before .refuse .ensures) ∙ c .before .enum-told .given .1))))
+    let asked = c .before .before .before in
+    let s = asked .before .args in
+    let some = passed Depth _ (sym (asked .refuse .ensures) ∙ c .before .enum-told .given .1) in
+    rw (c .narrower .ensures, answer-outcome) (sym (depth-some (s .f) (s .d) some))
 
 pub depth-check-spec : {M : Type 1} → statement M
 depth-check-spec = tie.close (tie.spec (λ c κs. search needs) (λ c. search needs) (λ c. search needs) (λ c κs. search needs) returns returns-2)

@@ -4,4 +4,12 @@ use Rattle.running_sum.proofs.open_check.Statement.{statement}
 use Rattle.running_sum.proofs.open_check.Tie as tie
 
 pub open-check-spec : {M : Type 1} → statement M
-open-check-spec = tie.close (tie.spec (λ c κs. search needs) (λ c. search needs) (λ c. search needs) (λ c κs. search needs) (λ c. search arms) (λ c. search arms))
+open-check-spec =
+    tie.close
+    (tie.spec
+    (λ c κs. search needs)
+    (λ c. search needs)
+    (λ c. search needs)
+    (λ c κs. search needs)
+    (λ c. search arms)
+    (λ c. search arms))

@@ -1,7 +1,0 @@
-use Rattle.words.proofs.Arms.{arms}
-use borrow.Author.Needs.{needs}
-use Rattle.half_unit.proofs.from_plain_check.Statement.{statement}
-use Rattle.half_unit.proofs.from_plain_check.Tie as tie
-
-pub from-plain-check-spec : {M : Type 1} → statement M
-from-plain-check-spec = tie.close (tie.spec (λ c κs. search needs) (λ c. search needs) (λ c. search needs) (λ c κs. search needs) (λ c. search arms) (λ c. search arms))

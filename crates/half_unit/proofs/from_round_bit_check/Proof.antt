@@ -1,7 +1,0 @@
-use Rattle.words.proofs.Arms.{arms}
-use borrow.Author.Needs.{needs}
-use Rattle.half_unit.proofs.from_round_bit_check.Statement.{statement}
-use Rattle.half_unit.proofs.from_round_bit_check.Tie as tie
-
-pub from-round-bit-check-spec : {M : Type 1} → statement M
-from-round-bit-check-spec = tie.close (tie.spec (λ c κs. search needs) (λ c. search needs) (λ c. search needs) (λ c κs. search needs) (λ c. search arms) (λ c. search arms))

@@ -1,7 +1,0 @@
-use Rattle.words.proofs.Arms.{arms}
-use borrow.Author.Needs.{needs}
-use Rattle.round_bit.proofs.widen_check.Statement.{statement}
-use Rattle.round_bit.proofs.widen_check.Tie as tie
-
-pub widen-check-spec : {M : Type 1} → statement M
-widen-check-spec = tie.close (tie.spec (λ c κs. search needs) (λ c. search needs) (λ c. search needs) (λ c κs. search needs) (λ c. search arms) (λ c. search arms))
