@@ -13,11 +13,11 @@ use Rattle.words.proofs.Laws.{cause-of-number, cause-some, found, refused-not-d
 use Rattle.running_sum.specs.declared.{RunningSum.RunningSum, OpenAnswer.OpenAnswer}
 use Rattle.running_sum.specs.Steps.{Call, blank, openOf, stepOf}
 use Rattle.running_sum.specs.Totals.{Answered, takenIn, givenOut, accepted, handedOut}
-use Rattle.running_sum.proofs.Conserved.{step-outcome}
+use Rattle.running_sum.proofs.Conserved.{step-outcome, shut}
 use Rattle.running_sum.proofs.Links.{Meets, Links, linked-refused, linked-totals, linked-small, linked-near, linked-equal}
 use Rattle.running_sum.proofs.Links.{linked-unchanged, linked-passes, linked-shut}
 use Rattle.frostuldi.specs.declared.{FrostRoundBit.FrostRoundBit, FrostRunningSum.FrostRunningSum, FrostSumAnswer.FrostSumAnswer}
-use Rattle.frostuldi.specs.Boundary.{roundBitIn, sumIn, flatRoundBit, sumOut}
+use Rattle.frostuldi.specs.Boundary.{roundBitIn, sumIn, flatRoundBit, flatSum, sumOut}
 use Rattle.frostuldi.specs.Demand3.{FrostCall, put, handOut, empty, FrostAnswered}
 use Rattle.frostuldi.specs.Demand3.{flatTakenIn, flatGivenOut, flatAccepted, flatHandedOut, flatKept}
 use Rattle.frostuldi.proofs.frost_running_sum_open.Reads as frost-open
@@ -190,7 +190,7 @@ module _ (n : ℕ) (e : ℤ) (d : ℕ) (a : FrostSumAnswer) (opening : frost-ope
 
     -- after a refused opening every call is refused and the sum stays the blank one
     pub flat-linked-shut : (a .refusal ≡ 0 → ⊥) → (c : FrostCall) (b : FrostSumAnswer) → FrostMeets last c b →
-        (b .refusal ≡ 0 → ⊥) × (last ≡ record { kept = flatBlank; depth = 0 })
+        (b .refusal ≡ 0 → ⊥) × (last ≡ flatSum shut)
     flat-linked-shut h c b m =
         let refused : opened .outcome ≡ Done → ⊥ = λ o. h (done-zero (a .refusal) o) in
         let q = linked-shut n e d opened opening-in _ _ (chain-in chain) refused (callIn c) _ _ _ (link-in last c b m) in

@@ -56,6 +56,9 @@ flatRoundBit w = record {
   round = w .number .1;
 }
 
+abbrev pub flatSum : RunningSum → FrostRunningSum
+flatSum s = record { kept = flatRoundBit (s .kept); depth = s .depth }
+
 abbrev pub plainOut : Outcome → PlainWord → FrostPlainAnswer
 plainOut o w = record { word = flatPlain w; refusal = numberOf o }
 
@@ -67,7 +70,7 @@ roundBitOut o w = record { word = flatRoundBit w; refusal = numberOf o }
 
 abbrev pub sumOut : Outcome → RoundBitWord → RunningSum → FrostSumAnswer
 sumOut o w s = record {
-  sum = record { kept = flatRoundBit (s .kept); depth = s .depth };
+  sum = flatSum s;
   word = flatRoundBit w;
   refusal = numberOf o;
 }

@@ -21,7 +21,8 @@ fits-by-half x y n h e f =
 
 pub fits-cleared : (x : ℤ) (n : ℕ) → 2 ≤ n → fitsWidth (cleared x) n ≡ fitsWidth x n
 fits-cleared x n h =
-    together (fitsWidth (cleared x) n) (fitsWidth x n) (fits-by-half (cleared x) x n h (floor-cleared x)) (fits-by-half x (cleared x) n h (sym (floor-cleared x)))
+    together (fitsWidth (cleared x) n) (fitsWidth x n) (fits-by-half (cleared x) x n h (floor-cleared x))
+    (fits-by-half x (cleared x) n h (sym (floor-cleared x)))
   where
     together : (a b : Bool) → (a ≡ true → b ≡ true) → (b ≡ true → a ≡ true) → a ≡ b
     together true b f g = sym (f refl)
@@ -88,6 +89,7 @@ half-product-mag x y =
       ap (λ (k : ℕ). (2 * mag x + 1) * k) (odd-size y),
     )
 
-pub half-product-size : (x y : ℤ) (i j : ℕ) → mag x < 2 ^ i → mag y < 2 ^ j → mag (floorBy ((((pos 2 *ℤ x) +ℤ pos 1) *ℤ ((pos 2 *ℤ y) +ℤ pos 1)) -ℤ pos 1) 1) < 2 ^ suc (i + j)
+pub half-product-size : (x y : ℤ) (i j : ℕ) → mag x < 2 ^ i → mag y < 2 ^ j →
+    mag (floorBy ((((pos 2 *ℤ x) +ℤ pos 1) *ℤ ((pos 2 *ℤ y) +ℤ pos 1)) -ℤ pos 1) 1) < 2 ^ suc (i + j)
 half-product-size x y i j h k =
     rw (half-product-is x y, half-product-mag x y) (omega (arith, pow-succ' 2 (i + j), pow-add 2 i j, mul-le-mul h k))

@@ -94,7 +94,8 @@ module _ {A : Type 0} where
   flat-grows (suc k) (suc n) f h = simp length-append (omega (arith, flat-grows k n (λ i. f (suc i)) (le-of-suc-le-suc h)))
 
   -- a turn: l is d with n parts stored from s on, and m is l with the next part stored behind them
-  pub flat-store : (w : ℕ) (d l m : List A) (s t n : ℕ) (f : ℕ → List A) → ((k : ℕ) → length (f k) ≡ w) → t ≡ s + w * n → l ≡ sets d s (flat n f) → m ≡ sets l t (f n) → m ≡ sets d s (flat (n + 1) f)
+  pub flat-store : (w : ℕ) (d l m : List A) (s t n : ℕ) (f : ℕ → List A) → ((k : ℕ) → length (f k) ≡ w) → t ≡ s + w * n → l ≡ sets d s (flat n f) →
+      m ≡ sets l t (f n) → m ≡ sets d s (flat (n + 1) f)
   flat-store w d l m s t n f h e q r =
       let len = length-flat w n f h in
       let k : t ≡ s + length (flat n f) = omega arith in

@@ -16,7 +16,13 @@ use Rattle.integers.proofs.Digits.{digit-le, digit-law, split-digit}
 pub below-law : (x : ℤ) (k : ℕ) → up x + down (floorBy x k) * 2 ^ k ≡ up (floorBy x k) * 2 ^ k + digitsBelow x k + down x
 unfolding digitsBelow
 below-law x zero = rw (floor-none x) (omega arith)
-below-law x (suc k) = omega (arith, below-law x k, ap (λ (i : ℕ). i * 2 ^ k) (digit-law x k), ap (λ (i : ℕ). up (floorBy x (suc k)) * i) (pow-succ' 2 k), ap (λ (i : ℕ). down (floorBy x (suc k)) * i) (pow-succ' 2 k))
+below-law x (suc k) = omega (
+  arith,
+  below-law x k,
+  ap (λ (i : ℕ). i * 2 ^ k) (digit-law x k),
+  ap (λ (i : ℕ). up (floorBy x (suc k)) * i) (pow-succ' 2 k),
+  ap (λ (i : ℕ). down (floorBy x (suc k)) * i) (pow-succ' 2 k),
+)
 
 pub below-more : (x : ℤ) (k : ℕ) → digitsBelow x (suc k) ≡ digit x k * 2 ^ k + digitsBelow x k
 unfolding digitsBelow
@@ -51,7 +57,12 @@ floor-low-digits x k =
 
 -- they lie from -2 ^ (d - 1) to 2 ^ (d - 1) - 1
 pub low-range : (x : ℤ) (k : ℕ) → mag (lowDigits x (suc k)) < 2 ^ k
-low-range x k = by-size (2 ^ k) (lowDigits x (suc k)) (omega (arith, low-law x k, below-range x k, mul-le-mul-right {m = digit x k} {n = 1} (2 ^ k) (digit-le x k)))
+low-range x k = by-size (2 ^ k) (lowDigits x (suc k)) (omega (
+  arith,
+  low-law x k,
+  below-range x k,
+  mul-le-mul-right {m = digit x k} {n = 1} (2 ^ k) (digit-le x k),
+))
 
 -- ---- a digit below k is 1 exactly where the digits below k, at their weights, are more than 0, and where the low k digits are not 0
 or-bit : (a b : ℕ) → a ≤ 1 → b ≤ 1 → (bitOr a b ≤ 1) × (a ≤ bitOr a b) × (b ≤ bitOr a b) × (bitOr a b ≤ a + b)
@@ -139,7 +150,8 @@ low-below x (suc k) = rw (same-digit, same-below)
     whole = sym (below-more y k) ∙ below-same (digitsBelow x (suc k)) (suc k) (below-range x (suc k)) ∙ below-more x k
 
     same-digit : digit y k ≡ digit x k
-    same-digit = split-digit (2 ^ k) (digitsBelow x k) (digitsBelow y k) (below-range x k) (below-range y k) (digit y k) (digit x k) (digit-le y k) (digit-le x k) (omega (arith, whole))
+    same-digit = split-digit (2 ^ k) (digitsBelow x k) (digitsBelow y k) (below-range x k) (below-range y k) (digit y k) (digit x k) (digit-le y k)
+        (digit-le x k) (omega (arith, whole))
 
     same-below : digitsBelow y k ≡ digitsBelow x k
     same-below = omega (arith, whole, ap (λ (i : ℕ). i * 2 ^ k) same-digit)
@@ -156,4 +168,5 @@ below-low x (suc k) = omega (arith, whole, ap (λ (i : ℕ). i * 2 ^ k) same-dig
     whole = omega (arith, fits-digits y k (low-range x k), ap (λ (i : ℕ). digit y k * i) (pow-succ' 2 k), low-law x k, below-more y k)
 
     same-digit : digit y k ≡ digit x k
-    same-digit = split-digit (2 ^ k) (digitsBelow y k) (digitsBelow x k) (below-range y k) (below-range x k) (digit y k) (digit x k) (digit-le y k) (digit-le x k) whole
+    same-digit = split-digit (2 ^ k) (digitsBelow y k) (digitsBelow x k) (below-range y k) (below-range x k) (digit y k) (digit x k) (digit-le y k)
+        (digit-le x k) whole

@@ -47,7 +47,8 @@ bits-end x d s f e = all x f ∙ ap (digitsBelow x) (sym e) ∙ below-split x d 
 -- so `x & (2 ^ d - 1)` are the digits below d: `y & 1` and `x & 255`
 mask-machine : (x : ℤ) (d : ℕ) → d ≤ 63 → SFits w64 x → toZ w64 (bitAnd (ofZ w64 x) (2 ^ d - 1)) ≡ pos (digitsBelow x d)
 mask-machine x d l f =
-    ap (toZ w64) (and-mask (ofZ w64 x) d ∙ ap (λ (u : ℕ). u % 2 ^ d) (bits-end x d (64 - d) f (omega arith)) ∙ digits-mod (digitsBelow (floorBy x d) (64 - d)) (below-range x d))
+    ap (toZ w64) (and-mask (ofZ w64 x) d ∙ ap (λ (u : ℕ). u % 2 ^ d) (bits-end x d (64 - d) f (omega arith))
+    ∙ digits-mod (digitsBelow (floorBy x d) (64 - d)) (below-range x d))
     ∙ toZ-pos w64 (lt-of-lt-of-le (below-range x d) (pow-mono l))
 
 pub lowest-machine : (y : ℤ) → SFits w64 y → toZ w64 (bitAnd (ofZ w64 y) 1) ≡ pos (lowest y)
@@ -187,7 +188,9 @@ low-machine x (suc k) f h l =
 -- from 64 on they are x itself
 pub low-far : (x : ℤ) (d : ℕ) → SFits w64 x → 63 < d → lowDigits x d ≡ x
 low-far x zero f h = absurd (omega arith)
-low-far x (suc k) f h = omega (ints, rw none at (floor-low-digits x k), plus-law (pos 0 *ℤ pos (2 ^ suc k)) (lowDigits x (suc k)), times-law (pos 0) (pos (2 ^ suc k)))
+low-far x (suc k) f h =
+    let low = plus-law (pos 0 *ℤ pos (2 ^ suc k)) (lowDigits x (suc k)) in
+    omega (ints, rw none at (floor-low-digits x k), low, times-law (pos 0) (pos (2 ^ suc k)))
   where
     same : floorBy x k ≡ floorBy x (suc k)
     same = sym (floor-far x k f (omega arith)) ∙ floor-far x (suc k) f (omega arith)

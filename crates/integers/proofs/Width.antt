@@ -36,13 +36,21 @@ pub fits-size : (x : ℤ) (n : ℕ) → fitsWidth x n ≡ true → mag x < 2 ^ (
 unfolding fitsWidth
 fits-size x n h =
     let p = 2 ^ (n - 1) in
-    by-size p x (omega (ints, lies-low (negℤ (pos p)) (pos p -ℤ pos 1) x h, lies-high (negℤ (pos p)) (pos p -ℤ pos 1) x h, neg-law (pos p), minus-law (pos p) (pos 1), pow-pos (n - 1)))
+    by-size p x (omega (
+      ints,
+      lies-low (negℤ (pos p)) (pos p -ℤ pos 1) x h,
+      lies-high (negℤ (pos p)) (pos p -ℤ pos 1) x h,
+      neg-law (pos p),
+      minus-law (pos p) (pos 1),
+      pow-pos (n - 1),
+    ))
 
 pub by-fits : (x : ℤ) (n : ℕ) → mag x < 2 ^ (n - 1) → fitsWidth x n ≡ true
 unfolding fitsWidth
 by-fits x n h =
     let p = 2 ^ (n - 1) in
-    lies-true (negℤ (pos p)) (pos p -ℤ pos 1) x (omega (arith, size-range p x h, neg-law (pos p))) (omega (arith, size-range p x h, minus-law (pos p) (pos 1), pow-pos (n - 1)))
+    lies-true (negℤ (pos p)) (pos p -ℤ pos 1) x (omega (arith, size-range p x h, neg-law (pos p)))
+    (omega (arith, size-range p x h, minus-law (pos p) (pos 1), pow-pos (n - 1)))
 
 pub fits-is : (x : ℤ) (n : ℕ) → fitsWidth x n ≡ ltb (mag x) (2 ^ (n - 1))
 fits-is x n = same (fitsWidth x n) refl (ltb (mag x) (2 ^ (n - 1))) refl
@@ -96,7 +104,13 @@ widen-size a r j d h l = rw (pow-add 2 j d) (go a (2 ^ j) (2 ^ d) (pow-pos d) h)
     go (negsuc n) p m k h =
         let x = negsuc n *ℤ pos m in
         by-size (p * m) (x +ℤ pos (r * (m - 1)))
-        (omega (arith, times-law (negsuc n) (pos m), plus-law x (pos (r * (m - 1))), mul-le-mul-right {m = r} {n = 1} (m - 1) l, mul-le-mul-right {m = suc n} {n = p} m h))
+        (omega (
+          arith,
+          times-law (negsuc n) (pos m),
+          plus-law x (pos (r * (m - 1))),
+          mul-le-mul-right {m = r} {n = 1} (m - 1) l,
+          mul-le-mul-right {m = suc n} {n = p} m h,
+        ))
 
 -- which is (a + r) * 2 ^ d - r, and every step of that fits an i64
 pub widen-is : (a : ℤ) (r d : ℕ) → ((a +ℤ pos r) *ℤ pos (2 ^ d)) -ℤ pos r ≡ (a *ℤ pos (2 ^ d)) +ℤ pos (r * (2 ^ d - 1))
@@ -116,7 +130,8 @@ widen-is a r d = go (2 ^ d) (pow-pos d)
           ap (λ (k : ℕ). r * k) e,
         )
 
-pub widen-machine : (a : ℤ) (r d : ℕ) → d ≤ 61 → mag a < 2 ^ (62 - d) → r ≤ 1 → SFits w64 (a +ℤ pos r) × SFits w64 ((a +ℤ pos r) *ℤ pos (2 ^ d)) × SFits w64 (((a +ℤ pos r) *ℤ pos (2 ^ d)) -ℤ pos r)
+pub widen-machine : (a : ℤ) (r d : ℕ) → d ≤ 61 → mag a < 2 ^ (62 - d) → r ≤ 1 →
+    SFits w64 (a +ℤ pos r) × SFits w64 ((a +ℤ pos r) *ℤ pos (2 ^ d)) × SFits w64 (((a +ℤ pos r) *ℤ pos (2 ^ d)) -ℤ pos r)
 widen-machine a r d l h k =
     let p = 2 ^ (62 - d) in
     let s = a +ℤ pos r in

@@ -28,7 +28,8 @@ unfoldable pub cutBy : (ℤ → ℕ → ℕ) → RoundBitWord → ℕ → RoundB
 -- "d = 0 returns the word."
 cutBy rule w zero = w
 cutBy rule w (suc k) =
-    roundBitWord (floorBy (w .number .0) (suc k)) (rule (w .number .0) k) (narrower (w .format) (suc k))
+    roundBitWord (floorBy (w .number .0) (suc k)) (rule (w .number .0) k)
+    (narrower (w .format) (suc k))
 
 -- "Cut by d": the new round bit is "digit d-1 of a"
 abbrev pub cutWord : RoundBitWord → ℕ → RoundBitWord

@@ -21,7 +21,8 @@ use Rattle.round_bit.specs.Arithmetic.{sumOf}
 use Rattle.round_bit.proofs.Laws.Cuts.{cut-done, cut-format, rest-format, rest-done, rest-closed, rest-refuses, rest-value, rest-small}
 use Rattle.round_bit.proofs.Laws.Sums.{sum-format, sum-done, sum-closed, sum-value}
 use Rattle.running_sum.specs.declared.RunningSum.{RunningSum}
-use Rattle.running_sum.specs.Steps.{blank, nothing, depthCheck, Call, put, handOut, empty, Step, keeping, stepped, runningSumCheck, putCheck, stepOf}
+use Rattle.running_sum.specs.Steps.{blank, made, nothing, depthCheck, Call, put, handOut, empty, Step, keeping, stepped, runningSumCheck, putCheck}
+use Rattle.running_sum.specs.Steps.{stepOf}
 use Rattle.running_sum.proofs.Checks.{depth-passed}
 use Rattle.running_sum.specs.Totals.{amount, takenIn, givenOut}
 
@@ -179,7 +180,7 @@ step-keeps s c e =
 
 -- and the sum of a refused opening refuses every call and stays as it is
 abbrev pub shut : RunningSum
-shut = record { kept = blank; depth = 0 }
+shut = made blank 0
 
 shut-outcome : (c : Call) → stepOf shut c .outcome ≡ Done → ⊥
 unfolding stepOf putCheck depthCheck

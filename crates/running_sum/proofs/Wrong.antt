@@ -18,7 +18,7 @@ use Rattle.words.specs.declared.RoundBitWord.{RoundBitWord}
 use Rattle.round_bit.specs.Cuts.{cutBy, restWord}
 use Rattle.round_bit.specs.Arithmetic.{sumWord}
 use Rattle.running_sum.specs.declared.RunningSum.{RunningSum}
-use Rattle.running_sum.specs.Steps.{blank, depthCheck, openAnswer, openOf, Call, put, handOut, empty, stepped, putCheck, stepOf}
+use Rattle.running_sum.specs.Steps.{blank, made, depthCheck, openAnswer, openOf, Call, put, handOut, empty, stepped, putCheck, stepOf}
 
 -- an answer laid flat: outcome and word, then what is kept (with no outcome of its own) and the depth
 record Answer : Type 0 where
@@ -50,7 +50,7 @@ abbrev at : ℤ → ℕ → RoundBitWord
 at a r = roundBitAt 8 a r
 
 abbrev keeps : ℤ → ℕ → RunningSum
-keeps a r = record { kept = at a r; depth = 2 }
+keeps a r = made (at a r) 2
 
 abbrev gives : Flat → ℤ → ℕ → Answer
 gives w a r = record { word = w; kept = flat 0 a r 8 (pos 0); depth = 2 }
@@ -65,7 +65,7 @@ refuses o s =
 
 -- a sum of width n and unit e that keeps (a, r) at a depth
 abbrev sumAt : ℕ → ℤ → ℕ → ℤ → ℕ → RunningSum
-sumAt n e d a r = record { kept = roundBitWord a r (format n e); depth = d }
+sumAt n e d a r = made (roundBitWord a r (format n e)) d
 
 -- of each call the three stand-ins: one that refuses, one that gives a fixed answer, one that copies the sum through and reports done
 abbrev standIns : List Row

@@ -23,6 +23,10 @@ blank = roundBitWord (pos 0) 0 blankFormat
 abbrev pub nothing : Format → RoundBitWord
 nothing f = roundBitWord (pos 0) 0 f
 
+-- a running sum is made here, and by `keeping` below from another
+abbrev pub made : RoundBitWord → ℕ → RunningSum
+made w d = record { kept = w; depth = d }
+
 -- 5: "a running sum has, or is opened with, a depth of 0 or more than its width less 2"; then 7, of
 -- the coarse unit
 unfoldable pub depthCheck : Format → ℕ → Outcome
@@ -36,9 +40,8 @@ openCheck f d = formatCheck f orElse depthCheck f d
 -- "it keeps a round-bit word of width N and unit e, at first (0,0)". Refused, "it then gives a sum
 -- that keeps the blank word at depth 0"
 unfoldable pub openAnswer : Outcome → Format → ℕ → OpenAnswer
-openAnswer Done f d = record { outcome = Done; sum = record { kept = nothing f; depth = d } }
-openAnswer (Refused c) f d =
-    record { outcome = Refused c; sum = record { kept = blank; depth = 0 } }
+openAnswer Done f d = record { outcome = Done; sum = made (nothing f) d }
+openAnswer (Refused c) f d = record { outcome = Refused c; sum = made blank 0 }
 
 unfoldable pub openOf : ℕ → ℤ → ℕ → OpenAnswer
 openOf n e d = openAnswer (openCheck (format n e) d) (format n e) d

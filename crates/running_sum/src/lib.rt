@@ -9,7 +9,7 @@
 // made, and a refused call leaves the sum as it was, digit for digit.
 ghost use mathlib.Core.Path.{_≡_};
 ghost use Rattle.words.specs.Refusals.{blankFormat};
-ghost use Rattle.running_sum.specs.Steps.{blank, depthCheck, openCheck, openAnswer, openOf, put, handOut, empty, stepOf, runningSumCheck, putCheck, keeping, putAnswer, handOutAnswer, emptyAnswer};
+ghost use Rattle.running_sum.specs.Steps.{blank, made, depthCheck, openCheck, openAnswer, openOf, put, handOut, empty, stepOf, runningSumCheck, putCheck, keeping, putAnswer, handOutAnswer, emptyAnswer};
 use words::Cause;
 use words::Format;
 use words::Outcome;
@@ -71,7 +71,7 @@ fn open_check(f: Format, d: u64) -> Outcome
 
 // A running sum is made here, and by `keeping` from another.
 fn opened(w: RoundBitWord, d: u64) -> RunningSum
-    ensures { λ r. ⌜ r ≡ record { kept = w; depth = d } ⌝ }
+    ensures { λ r. ⌜ r ≡ made w d ⌝ }
 {
     RunningSum { kept: w, depth: d }
 }

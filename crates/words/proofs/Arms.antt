@@ -25,7 +25,8 @@ passing o p e f = sym e ∙ f
 pub refusing : {A : Type 0} (refused : Cause → A) (o p : Outcome) (c : Cause) (a r : A) → o ≡ p → o ≡ Refused c → r ≡ refused c → r ≡ after refused p a
 refusing refused o p c a r e f g = g ∙ rw (← e, f)
 
-pub answering : {A W : Type 0} (refused : Cause → A) (done : W → A) (o p : Outcome) (w v : W) (r : A) → o ≡ p → o ≡ Done → w ≡ v → r ≡ done w → r ≡ after refused p (done v)
+pub answering : {A W : Type 0} (refused : Cause → A) (done : W → A) (o p : Outcome) (w v : W) (r : A) → o ≡ p → o ≡ Done → w ≡ v → r ≡ done w →
+    r ≡ after refused p (done v)
 answering refused done o p w v r e f g h = h ∙ rw (← e, f, g)
 
 -- the same where the answer is a struct of its own
@@ -69,10 +70,12 @@ test-told c s t r e f = rw (e, f)
 pub number-told : (f : Format) (x : ℤ) (r : ℕ) (o : Outcome) → SFits w64 x → o ≡ wordCheck f (toZ w64 (ofZ w64 x)) r → o ≡ wordCheck f x r
 number-told f x r o s e = e ∙ rw (toZ-ofZ s)
 
-pub fit-refusing : {A : Type 0} (refused : Cause → A) (f : Format) (x : ℤ) (b : Bool) (a r : A) → SFits w64 x → b ≡ outside f (toZ w64 (ofZ w64 x)) → b ≡ true → r ≡ refused NumberPast → r ≡ after refused (refuse 8 (outside f x)) a
+pub fit-refusing : {A : Type 0} (refused : Cause → A) (f : Format) (x : ℤ) (b : Bool) (a r : A) → SFits w64 x → b ≡ outside f (toZ w64 (ofZ w64 x)) →
+    b ≡ true → r ≡ refused NumberPast → r ≡ after refused (refuse 8 (outside f x)) a
 fit-refusing refused f x b a r s e t g = g ∙ rw (← (rw (toZ-ofZ s) at e), t)
 
-pub fit-answering : {A : Type 0} (refused : Cause → A) (f : Format) (x : ℤ) (b : Bool) (a r : A) → SFits w64 x → b ≡ outside f (toZ w64 (ofZ w64 x)) → b ≡ false → r ≡ a → r ≡ after refused (refuse 8 (outside f x)) a
+pub fit-answering : {A : Type 0} (refused : Cause → A) (f : Format) (x : ℤ) (b : Bool) (a r : A) → SFits w64 x → b ≡ outside f (toZ w64 (ofZ w64 x)) →
+    b ≡ false → r ≡ a → r ≡ after refused (refuse 8 (outside f x)) a
 fit-answering refused f x b a r s e t g = g ∙ rw (← (rw (toZ-ofZ s) at e), t)
 
 pub ruleset arms = (passing, refusing, first-refusing, first-passing, format-told, format-refusing, format-passing, test-told)

@@ -35,12 +35,14 @@ pub format-same : (f : Format) → differ f f ≡ false
 format-same f = rw (eq-eqb (f .width) (f .width) refl, same-eqZ (f .unit) (f .unit) refl)
 
 -- ---- two operands and a third check, both ways
-pub both-right : (f : Format) (x : ℤ) (r : ℕ) (g : Format) (y : ℤ) (s : ℕ) (o : Outcome) → (wordCheck f x r orElse wordCheck g y s orElse o) ≡ Done → Right f x r × Right g y s × (o ≡ Done)
+pub both-right : (f : Format) (x : ℤ) (r : ℕ) (g : Format) (y : ℤ) (s : ℕ) (o : Outcome) → (wordCheck f x r orElse wordCheck g y s orElse o) ≡ Done →
+    Right f x r × Right g y s × (o ≡ Done)
 both-right f x r g y s o e =
     let p = three-passed (wordCheck f x r) (wordCheck g y s) o e in
     (right f x r (p .0), right g y s (p .1), p .2)
 
-pub right-both : {f : Format} {x : ℤ} {r : ℕ} {g : Format} {y : ℤ} {s : ℕ} {o : Outcome} → Right f x r → Right g y s → o ≡ Done → (wordCheck f x r orElse wordCheck g y s orElse o) ≡ Done
+pub right-both : {f : Format} {x : ℤ} {r : ℕ} {g : Format} {y : ℤ} {s : ℕ} {o : Outcome} → Right f x r → Right g y s → o ≡ Done →
+    (wordCheck f x r orElse wordCheck g y s orElse o) ≡ Done
 right-both {f} {x} {r} {g} {y} {s} p q e = both-pass (word-right f x r p) (both-pass (word-right g y s q) e)
 
 -- ---- the refusal 8 not given: what that tells, and what it asks
@@ -57,7 +59,8 @@ module _ {A : Type 0} (refused : Cause → A) (outcome : A → Outcome) (told : 
   done-passed (Refused c) a e = absurd (refused-not-done (sym (told c) ∙ e))
 
   -- and where 8 was asked last, its number fits
-  pub done-fits : (o : Outcome) (f : Format) (x : ℤ) (a : A) → outcome (after refused o (after refused (refuse 8 (outside f x)) a)) ≡ Done → (o ≡ Done) × (mag x < 2 ^ (f .width - 1))
+  pub done-fits : (o : Outcome) (f : Format) (x : ℤ) (a : A) → outcome (after refused o (after refused (refuse 8 (outside f x)) a)) ≡ Done →
+      (o ≡ Done) × (mag x < 2 ^ (f .width - 1))
   done-fits o f x a e =
       let p = done-passed o (after refused (refuse 8 (outside f x)) a) e in
       (p, fit-passed f x (done-passed (refuse 8 (outside f x)) a (rw p at e)))
@@ -68,12 +71,14 @@ module _ {A : Type 0} (refused : Cause → A) (outcome : A → Outcome) (told : 
   outcome-kept (Refused c) a e = told c
 
 -- ---- the check of two operands that must have one format, both ways
-pub operands-right : (f : Format) (x : ℤ) (r : ℕ) (g : Format) (y : ℤ) (s : ℕ) → (wordCheck f x r orElse wordCheck g y s orElse refuse 4 (differ f g)) ≡ Done → Right f x r × Right g y s × (f ≡ g)
+pub operands-right : (f : Format) (x : ℤ) (r : ℕ) (g : Format) (y : ℤ) (s : ℕ) →
+    (wordCheck f x r orElse wordCheck g y s orElse refuse 4 (differ f g)) ≡ Done → Right f x r × Right g y s × (f ≡ g)
 operands-right f x r g y s e =
     let p = both-right f x r g y s (refuse 4 (differ f g)) e in
     (p .0, p .1, same-format f g (passed Mismatch (differ f g) (p .2)))
 
-pub right-operands : {f : Format} {x : ℤ} {r : ℕ} {g : Format} {y : ℤ} {s : ℕ} → Right f x r → Right g y s → f ≡ g → (wordCheck f x r orElse wordCheck g y s orElse refuse 4 (differ f g)) ≡ Done
+pub right-operands : {f : Format} {x : ℤ} {r : ℕ} {g : Format} {y : ℤ} {s : ℕ} → Right f x r → Right g y s → f ≡ g →
+    (wordCheck f x r orElse wordCheck g y s orElse refuse 4 (differ f g)) ≡ Done
 right-operands {g = g} p q e = right-both p q (rw (e, format-same g))
 
 -- ---- the numbers of two operands and a carry add up in an i64

@@ -1,4 +1,5 @@
--- What is right: 0, and what stays right: a sign change, a floor, the low digits, a widening and a doubling of a right number, and its lowest digit cleared. Assumes nothing.
+-- What is right: 0, and what stays right: a sign change, a floor, the low digits, a widening and a doubling of a right number, and its lowest digit cleared.
+-- Assumes nothing.
 use Prim.Native.Nat.{ℕ, suc, _+_, _-_, _*_, _^_, _≤_}
 use native.Mathlib.Omega.{arith}
 use native.Mathlib.Nat.{lt-of-lt-of-le}
@@ -41,7 +42,8 @@ low-right {f} {x} k s g e h =
       bit = h;
     }
 
-pub widened-right : {f : Format} {x : ℤ} {r : ℕ} (d : ℕ) → Right f x r → RightFormat (wider f d) → Right (wider f d) (x *ℤ pos (2 ^ d) +ℤ pos (r * (2 ^ d - 1))) r
+pub widened-right : {f : Format} {x : ℤ} {r : ℕ} (d : ℕ) → Right f x r → RightFormat (wider f d) →
+    Right (wider f d) (x *ℤ pos (2 ^ d) +ℤ pos (r * (2 ^ d - 1))) r
 widened-right {f} {x} {r} d g h =
     let same : f .width - 1 + d ≡ f .width + d - 1 = omega (arith, g .format .narrow) in
     record { format = h; size = rw same at (widen-size x r (f .width - 1) d (g .size) (g .bit)); bit = g .bit }

@@ -17,7 +17,8 @@ narrower f d = format (f .width - d) (f .unit +ℤ pos d)
 
 -- 5: it "would leave fewer than 2 digits"; then 7
 unfoldable pub narrowerCheck : Format → ℕ → Outcome
-narrowerCheck f d = refuse 5 (ltb (f .width - d) leastWidth) orElse refuse 7 (badUnit (f .unit +ℤ pos d))
+narrowerCheck f d =
+    refuse 5 (ltb (f .width - d) leastWidth) orElse refuse 7 (badUnit (f .unit +ℤ pos d))
 
 -- "width n+d, unit e-d"
 abbrev pub wider : Format → ℕ → Format

@@ -63,8 +63,9 @@ module _ (file text : List ℕ) (long : length text ≡ 248019) where
 
 returns : tie.Need-returns
 returns c =
-    let file = c .before .before .before .before .args .file .now in
-    let text = c .before .before .before .before .args .text .now in
+    let at-args = c .before .before .before .before in
+    let file = at-args .args .file .now in
+    let text = at-args .args .text .now in
     let long : length text ≡ 248019 = search needs in
     let listed = c .before .list in
     let count = count-is file text long _ (listed .ensures .0) in

@@ -34,7 +34,8 @@ module _ (test : Cause → Bool) where
       let p = and-both (test d) (every test more) a in
       go (eqb (causeNumber d) n) refl (p .0) e (λ f. row-has more n c (p .1) f)
     where
-      go : (b : Bool) → eqb (causeNumber d) n ≡ b → test d ≡ true → firstOf b d (rowIn more n) ≡ Refused c → (rowIn more n ≡ Refused c → (causeNumber c ≡ n) × (test c ≡ true)) → (causeNumber c ≡ n) × (test c ≡ true)
+      go : (b : Bool) → eqb (causeNumber d) n ≡ b → test d ≡ true → firstOf b d (rowIn more n) ≡ Refused c →
+          (rowIn more n ≡ Refused c → (causeNumber c ≡ n) × (test c ≡ true)) → (causeNumber c ≡ n) × (test c ≡ true)
       go true z t e r = let same : d ≡ c = ap (found d) e in (rw same at (eqb-true (causeNumber d) n z), rw same at t)
       go false z t e r = r e
 

@@ -20,7 +20,8 @@ unfolding value
 half-unit-law w = omega (arith, times-law (pos 2) w, plus-law (pos 2 *ℤ w) (pos 1))
 
 -- "The same digits mean three amounts": whatever the digits, as a plain word, as (x,1) and as a half-unit word
-pub three-amounts-differ : (x : ℤ) → (value plain x 0 ≡ value roundBit x 1 → ⊥) × (value plain x 0 ≡ value halfUnit x 0 → ⊥) × (value roundBit x 1 ≡ value halfUnit x 0 → ⊥)
+pub three-amounts-differ : (x : ℤ) → (value plain x 0 ≡ value roundBit x 1 → ⊥) × (value plain x 0 ≡ value halfUnit x 0 → ⊥)
+    × (value roundBit x 1 ≡ value halfUnit x 0 → ⊥)
 three-amounts-differ x = (
   (λ e. omega (arith, plain-law x, round-bit-law x 1, ap up e, ap down e)),
   (λ e. omega (arith, plain-law x, half-unit-law x, ap up e, ap down e)),
