@@ -124,9 +124,6 @@ handed-out e (a ∷ rest) = rw (given-out, handed-out e rest)
 abbrev pub flatBlank : FrostRoundBit
 flatBlank = record { number = pos 0; width = 2; unit = pos 0; round = 0 }
 
-abbrev flatSum : RunningSum → FrostRunningSum
-flatSum s = sumOut Done blank s .sum
-
 pub flat-linked-refused : (s : FrostRunningSum) (c : FrostCall) (a : FrostSumAnswer) → FrostMeets s c a → (a .refusal ≡ 0 → ⊥) →
     (a .sum ≡ s) × (a .word ≡ flatBlank)
 flat-linked-refused s c a m h = go (a .refusal) h (link-in s c a m)

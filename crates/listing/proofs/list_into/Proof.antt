@@ -16,21 +16,21 @@ use Rattle.words.specs.declared.Outcome.{Outcome}
 use Rattle.words.specs.declared.Outcome.the-variants.{Done, Refused}
 use Rattle.words.specs.declared.WriteAnswer.{WriteAnswer}
 use Rattle.words.specs.Refusals.{writeAnswer, lentAfter}
-use Rattle.words.specs.Words.{Kind}
-use Rattle.words.specs.Words.Kind.{plain, roundBit, halfUnit}
 use Rattle.block_file.specs.declared.Head.{Head}
-use Rattle.listing_text.specs.Listing.{listing, listed, listCheck, kindName, headLine, refusedLine, roomCheck, listOf, textAfter}
+use Rattle.block_file.specs.Kinds.{KindRow, kindRow}
+use Rattle.block_file.proofs.Laws.Kinds.{each-row}
+use Rattle.listing_text.specs.Listing.{listing, listed, listCheck, headLine, refusedLine, roomCheck, listOf, textAfter}
 use Rattle.listing_text.proofs.Laws.Lengths.{longest-listing}
 use borrow.Author.Needs.{needs}
 use Rattle.listing.proofs.list_into.Statement.{statement}
 use Rattle.listing.proofs.list_into.Tie as tie
 
--- a kind's name does not begin as a refusal does
-first-of-kind : (k : Kind) (more : List ℕ) → eqb (getD (kindName k ++ more) 0 0) 114 ≡ false
-unfolding kindName
-first-of-kind plain more = refl
-first-of-kind roundBit more = refl
-first-of-kind halfUnit more = refl
+abbrev Begins : KindRow → Type 0
+Begins row = (more : List ℕ) → eqb (getD (row .name ++ more) 0 0) 114 ≡ false
+
+-- no kind's name begins as a refusal does
+first-of-kind : (byte : ℕ) → Begins (kindRow byte)
+first-of-kind = each-row Begins ((λ more. refl), ((λ more. refl), ((λ more. refl), record {})))
 
 abbrev tells : List ℕ → Bool
 tells text = eqb (getD text 0 0) 114
