@@ -58,24 +58,12 @@ pub fn sign_change(w: HalfUnitWord) -> HalfUnitAnswer
     }
 }
 
-// A refusal in place of a format.
-fn format_refused(c: Cause) -> FormatAnswer
-    ensures { λ r. ⌜ r ≡ formatAnswer (Outcome.Refused c) blankFormat ⌝ }
-{
-    let a = words::half_unit_refused(c);
-    let f = a.word.format;
-    FormatAnswer {
-        outcome: Outcome::Refused(c),
-        format: f,
-    }
-}
-
 // Cut by d: the floor. Its check finds its format.
 fn cut_format(w: HalfUnitWord, d: u64) -> FormatAnswer
     ensures { λ r. ⌜ r ≡ formatAnswer (cutCheck w d) (narrower (w .format) d) ⌝ }
 {
     if let Outcome::Refused(c) = words::half_unit_check(w) {
-        format_refused(c)
+        words::format_refused(c)
     } else {
         words::narrower(w.format, d)
     }
@@ -128,7 +116,7 @@ fn from_plain_format(w: PlainWord, d: u64) -> FormatAnswer
     ensures { λ r. ⌜ r ≡ formatAnswer (fromPlainCheck w d) (narrower (w .format) d) ⌝ }
 {
     if let Outcome::Refused(c) = words::plain_check(w) {
-        format_refused(c)
+        words::format_refused(c)
     } else {
         words::narrower(w.format, d)
     }
@@ -196,7 +184,7 @@ fn to_plain_format(w: HalfUnitWord) -> FormatAnswer
     ensures { λ r. ⌜ r ≡ formatAnswer (toPlainCheck w) (wider (w .format) 1) ⌝ }
 {
     if let Outcome::Refused(c) = words::half_unit_check(w) {
-        format_refused(c)
+        words::format_refused(c)
     } else {
         words::wider(w.format, 1)
     }
@@ -260,7 +248,7 @@ fn from_round_bit_format(w: RoundBitWord) -> FormatAnswer
     ensures { λ r. ⌜ r ≡ formatAnswer (fromRoundBitCheck w) (wider (w .format) 1) ⌝ }
 {
     if let Outcome::Refused(c) = words::round_bit_check(w) {
-        format_refused(c)
+        words::format_refused(c)
     } else {
         words::wider(w.format, 1)
     }
@@ -365,9 +353,9 @@ fn product_format(x: HalfUnitWord, y: HalfUnitWord) -> FormatAnswer
     ensures { λ r. ⌜ r ≡ formatAnswer (productCheck x y) (productFormat (x .format) (y .format)) ⌝ }
 {
     if let Outcome::Refused(c) = words::half_unit_check(x) {
-        format_refused(c)
+        words::format_refused(c)
     } else if let Outcome::Refused(c) = words::half_unit_check(y) {
-        format_refused(c)
+        words::format_refused(c)
     } else {
         formats_multiplied(x.format, y.format)
     }

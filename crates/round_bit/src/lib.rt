@@ -75,24 +75,12 @@ pub fn sign_change(w: RoundBitWord) -> RoundBitAnswer
     }
 }
 
-// A refusal in place of a format.
-fn format_refused(c: Cause) -> FormatAnswer
-    ensures { λ r. ⌜ r ≡ formatAnswer (Outcome.Refused c) blankFormat ⌝ }
-{
-    let a = words::round_bit_refused(c);
-    let f = a.word.format;
-    FormatAnswer {
-        outcome: Outcome::Refused(c),
-        format: f,
-    }
-}
-
 // Cut by d: the floor, and the highest digit that goes as the round bit. Its check finds its format.
 fn cut_format(w: RoundBitWord, d: u64) -> FormatAnswer
     ensures { λ r. ⌜ r ≡ formatAnswer (cutCheck w d) (narrower (w .format) d) ⌝ }
 {
     if let Outcome::Refused(c) = words::round_bit_check(w) {
-        format_refused(c)
+        words::format_refused(c)
     } else {
         words::narrower(w.format, d)
     }
@@ -284,7 +272,7 @@ fn widen_format(w: RoundBitWord, d: u64) -> FormatAnswer
     ensures { λ r. ⌜ r ≡ formatAnswer (widenCheck w d) (wider (w .format) d) ⌝ }
 {
     if let Outcome::Refused(c) = words::round_bit_check(w) {
-        format_refused(c)
+        words::format_refused(c)
     } else {
         words::wider(w.format, d)
     }
@@ -416,9 +404,9 @@ fn product_format(x: RoundBitWord, y: RoundBitWord) -> FormatAnswer
     ensures { λ r. ⌜ r ≡ formatAnswer (productCheck x y) (productFormat (x .format) (y .format)) ⌝ }
 {
     if let Outcome::Refused(c) = words::round_bit_check(x) {
-        format_refused(c)
+        words::format_refused(c)
     } else if let Outcome::Refused(c) = words::round_bit_check(y) {
-        format_refused(c)
+        words::format_refused(c)
     } else {
         formats_multiplied(x.format, y.format)
     }

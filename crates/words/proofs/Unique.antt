@@ -8,6 +8,7 @@ use Rattle.words.proofs.bad_unit.Reads as bad-unit
 use Rattle.words.proofs.outside.Reads as outside
 use Rattle.words.proofs.differ.Reads as differ
 use Rattle.words.proofs.format_check.Reads as format-check
+use Rattle.words.proofs.format_refused.Reads as format-refused
 use Rattle.words.proofs.formed.Reads as formed
 use Rattle.words.proofs.units_multiplied.Reads as units-multiplied
 use Rattle.words.proofs.wider.Reads as wider
@@ -45,6 +46,9 @@ differ-one a x y e f p q = p ∙ sym q
 
 format-check-one : OneResult (format-check.Post tt)
 format-check-one a x y e f p q = p ∙ sym q
+
+format-refused-one : OneResult (format-refused.Post tt)
+format-refused-one a x y e f p q = p ∙ sym q
 
 formed-one : OneResult (formed.Post tt)
 formed-one a x y e f p q = p ∙ sym q

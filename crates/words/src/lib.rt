@@ -208,7 +208,8 @@ const BLANK_FORMAT: Format = Format {
     unit: 0,
 };
 
-fn format_refused(c: Cause) -> FormatAnswer
+// A refusal, with the blank format.
+pub fn format_refused(c: Cause) -> FormatAnswer
     ensures { λ r. ⌜ r ≡ formatAnswer (Outcome.Refused c) blankFormat ⌝ }
 {
     FormatAnswer {
