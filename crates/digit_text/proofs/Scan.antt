@@ -1,5 +1,7 @@
 -- Facts about texts and their digits, for the functions and the laws: a digit's byte, what one byte more does to a text's value and to the
 -- sign before the next place, how large the value can be, and what a passed check tells. Assumes nothing.
+-- Proved here: `byte-none`, `byte-plus`, `byte-minus`, `signed-above`, `digit-range`, `getD-any`, `value-append`, `value-next`, `value-range`,
+-- `value-small`, `sign-next`, `bit-le`, `round-le`, `good-is`, `read-right`, `write-room`.
 use Prim.Native.Nat.{ℕ, zero, suc, _+_, _*_, _-_, _^_, _≤_, _<_}
 use native.Mathlib.Nat.{not-suc-le-zero, le-of-suc-le-suc, lt-of-lt-of-le, mul-le-mul-right, pow-succ'}
 use native.Mathlib.Numerals.{add-one}

@@ -57,7 +57,7 @@ fn write_check(w: RoundBitWord, room: usize) -> Outcome
     if let Outcome::Refused(c) = words::round_bit_check(w) {
         Outcome::Refused(c)
     } else {
-        words::refuse(Cause::Buffer, room < (w.format.width as usize))
+        words::refuse_for(Cause::Buffer, room < (w.format.width as usize))
     }
 }
 
@@ -129,15 +129,15 @@ fn read_check(text: &[u8], unit: i32) -> Outcome
     ensures { λ r. ⌜ r ≡ readCheck (now (text .entry)) unit ⌝ }
 {
     let n = text.len();
-    if let Outcome::Refused(c) = words::refuse(Cause::Width, !((2 <= n) & (n <= 63))) {
+    if let Outcome::Refused(c) = words::refuse_for(Cause::Width, !((2 <= n) & (n <= 63))) {
         Outcome::Refused(c)
-    } else if let Outcome::Refused(c) = words::refuse(
+    } else if let Outcome::Refused(c) = words::refuse_for(
         Cause::Unit,
         !((-127 <= unit) & (unit <= 127)),
     ) {
         Outcome::Refused(c)
     } else {
-        words::refuse(Cause::DigitText, first_fault(text) < n)
+        words::refuse_for(Cause::DigitText, first_fault(text) < n)
     }
 }
 

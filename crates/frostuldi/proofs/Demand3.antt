@@ -2,6 +2,8 @@
 -- contract, and each call is made on the sum that came back from the call before (proofs/Chains.antt). Such a chain is a chain of
 -- the Rattle methods, so what proofs/Links.antt of running_sum proves of those holds of it. Half a coarse unit is 2 ^ depth, as
 -- values are in half units of the sum's unit. Assumes nothing.
+-- Proved here: `round-bit-back`, `sum-back`, `sum-forth`, `flat-linked-refused`, `flat-linked-totals`, `flat-linked-small`, `flat-linked-near`,
+-- `flat-linked-equal`, `flat-linked-unchanged`, `flat-linked-passes`, `flat-linked-shut`.
 use Prim.Native.Nat.{ℕ, zero, suc, _-_, _^_, _≤_}
 use native.Mathlib.Omega.{arith}
 use mathlib.Core.Path.{_≡_, refl, sym, ap, _∙_, subst}

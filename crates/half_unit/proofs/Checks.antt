@@ -1,4 +1,5 @@
 -- What a passed check of each operation tells, and the word that a cut or a conversion with a depth makes. Assumes nothing.
+-- Proved here: `to-plain-passed`, `from-round-bit-passed`, `sum-passed`, `product-passed`, `narrowed`.
 use Prim.Native.Nat.{ℕ}
 use mathlib.Core.Path.{_≡_}
 use lib.IntN.{ℤ}

@@ -285,7 +285,7 @@ fn sum_check(x: HalfUnitWord, y: HalfUnitWord) -> Outcome
     } else if let Outcome::Refused(c) = words::half_unit_check(y) {
         Outcome::Refused(c)
     } else {
-        words::refuse(Cause::Mismatch, words::differ(x.format, y.format))
+        words::refuse_for(Cause::Mismatch, words::differ(x.format, y.format))
     }
 }
 

@@ -1,4 +1,6 @@
 -- Laws of the single digits, at every index. Assumes nothing.
+-- Proved here: `lowest-law`, `lowest-le`, `cleared-is`, `cleared-law`, `digit-le`, `floor-next`, `digit-law`, `digit-turned`, `digit-floor`,
+-- `lowest-evened`, `widened-twice`, `digit-widened`, `lowest-cleared`, `floor-cleared`, `digit-minus-one`, `both-bits`, `split-digit`.
 use mathlib.Core.Path.{_≡_, refl, ap, _∙_}
 use Prim.Native.Nat.{ℕ, zero, suc, _+_, _*_, _-_, _^_, _<_, _≤_}
 use native.Mathlib.Omega.{arith}

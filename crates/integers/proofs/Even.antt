@@ -1,4 +1,5 @@
 -- Rounding to even by the digits, as bounds. Assumes nothing.
+-- Proved here: `at-half`, `with-cause`, `past-half`, `from-odd`, `even-bit`, `even-plain`, `near`, `tie`, `even-rounds`.
 use mathlib.Core.Path.{_≡_, refl}
 use Prim.Native.Nat.{ℕ, zero, suc, _+_, _*_, _^_, _<_, _≤_}
 use native.Mathlib.Omega.{arith}

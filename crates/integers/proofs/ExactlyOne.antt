@@ -1,4 +1,5 @@
 -- Exactly one of two tests: it turns with either, it does not matter which comes first, and it is the code's test. Assumes nothing.
+-- Proved here: `one-not`, `one-comm`, `exactly-one`.
 use mathlib.Core.Path.{_≡_, refl}
 use mathlib.Core.Bool.{Bool, true, false, not, Bool·beq}
 use Rattle.integers.specs.Numbers.{exactlyOne}

@@ -1,4 +1,6 @@
 -- Laws of the floor, at every depth. Assumes nothing.
+-- Proved here: `floor-low`, `floor-high`, `floor-is`, `floor-only`, `only-floor`, `floor-floor`, `floor-none`, `turned-pos`, `turned-negsuc`,
+-- `turned-law`, `turned-turned`, `turned-size`, `floor-turned`, `floor-size`, `floor-range`, `floor-widened`.
 use mathlib.Core.Path.{_≡_, refl, sym, ap, _∙_}
 use Prim.Native.Nat.{ℕ, _+_, _*_, _-_, _/_, _^_, _<_, _≤_}
 use native.Mathlib.Omega.{arith}

@@ -1,4 +1,5 @@
 -- Numbers with their lowest digit cleared, doubled numbers and odd ones: what fits, and the product of half-unit words. Assumes nothing.
+-- Proved here: `fits-cleared`, `cleared-size`, `doubled-size`, `half-product-odd`, `half-product-is`, `half-product-mag`, `half-product-size`.
 use mathlib.Core.Path.{_≡_, refl, sym, ap, _∙_}
 use mathlib.Core.Bool.{Bool, true, false}
 use Prim.Native.Nat.{ℕ, suc, _+_, _*_, _-_, _^_, _<_, _≤_}

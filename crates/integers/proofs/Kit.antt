@@ -2,6 +2,9 @@
 -- which one is 0. Each operation has one law on these two, and orders, equality, tests and machine ranges are rules, so that
 -- `omega (ints, plus-law a b, times-law c d)` proves a fact of ℤ as `omega arith` proves one of ℕ. A product is exact in its monomials:
 -- hand over a law times a factor, `ap (λ (k : ℕ). k * m) (plus-law a b)`. Assumes nothing.
+-- Proved here: `plus-law`, `neg-law`, `minus-law`, `times-law`, `size-law`, `one-zero`, `eq-rule`, `by-eq`, `le-rule`, `by-le`, `lt-rule`, `by-lt`,
+-- `is-true`, `is-false`, `and-both`, `le-true`, `le-false`, `lt-true`, `lt-false`, `by-le-true`, `by-le-false`, `by-lt-true`, `by-lt-false`,
+-- `size-range`, `by-size`, `abs-range`, `by-abs`, `abs-law`, `abs-apart`, `machine-rule`, `by-machine`.
 use mathlib.Core.Path.{_≡_, refl, sym, ap, _∙_, subst}
 use mathlib.Core.Bool.{Bool, true, false, not, cond, _&&_}
 use Prim.Native.Nat.{ℕ, zero, suc, _+_, _*_, _-_, _^_, _<_, _≤_, max, min}

@@ -1,5 +1,8 @@
 -- Laws of a list that a loop writes over from its front, of parts stored one behind the other, and of the search for the first fault.
 -- Each is over the element type, and is what one turn of such a loop asks. Assumes nothing.
+-- Proved here: `length-tab`, `getD-tab`, `over-none`, `over-store`, `length-over`, `over-front`, `over-below`, `over-above`, `sets-append`,
+-- `sets-front`, `flat-more`, `length-flat`, `flat-most`, `flat-grows`, `flat-store`, `first-bad-le`, `first-bad-before`, `first-bad-at`,
+-- `first-bad-none`, `first-bad-end`, `first-bad-fails`, `all-each`, `each-all`, `all-fails`.
 use mathlib.Core.Path.{_≡_, refl, sym, ap, _∙_}
 use mathlib.Core.Bool.{Bool, true, false, cond}
 use mathlib.Core.List.{List, [], _∷_, _++_, append-assoc, append-nil}

@@ -1,4 +1,6 @@
 -- Laws of the digits below an index and of the low digits, at every depth. Assumes nothing.
+-- Proved here: `below-law`, `below-more`, `lowest-below`, `below-range`, `low-law`, `floor-low-digits`, `low-range`, `any-le`, `none-below`,
+-- `some-below`, `low-none`, `none-low`, `fits-digits`, `below-split`, `below-same`, `low-below`, `below-low`.
 use mathlib.Core.Path.{_≡_, refl, sym, ap, _∙_}
 use Prim.Native.Nat.{ℕ, zero, suc, _+_, _*_, _^_, _<_, _≤_}
 use native.Mathlib.Omega.{arith}

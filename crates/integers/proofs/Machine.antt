@@ -1,5 +1,7 @@
 -- What a few machine operations on an i64 compute, in the terms of the definitions, with the depth a variable. `ofZ w64 x` are the bits of
 -- x as a natural number, `toZ w64 b` is the number that the bits b mean. Assumes nothing.
+-- Proved here: `floor-machine`, `floor-far`, `lowest-machine`, `byte-machine`, `by-cast`, `turned-machine`, `is-negative`, `not-negative`, `by-bits`,
+-- `fits-machine-test`, `times-machine`, `cleared-machine`, `low-fits`, `low-machine`, `low-far`.
 use mathlib.Core.Path.{_≡_, refl, sym, ap, _∙_, subst}
 use mathlib.Core.Bool.{Bool, true, false, _||_, or-false}
 use Prim.Native.Nat.{ℕ, zero, suc, _+_, _*_, _-_, _/_, _%_, _^_, _<_, _≤_}
@@ -18,9 +20,8 @@ use borrow.Author.Tests.{eq-eqb, ne-eqb, ltb-true, ltb-false}
 use Rattle.integers.specs.Numbers.{fitsWidth, turned, cleared, floorBy, lowest, digit, digitsBelow, lowDigits}
 use Rattle.integers.proofs.Kit.{ints, size-range, by-machine, plus-law, neg-law, times-law}
 use Rattle.integers.proofs.Floor.{floor-size, floor-range, turned-pos, turned-negsuc, floor-widened}
-use Rattle.integers.proofs.Digits.{cleared-is, digit-law}
 use Rattle.integers.proofs.LowDigits.{below-law, below-range, low-range, floor-low-digits, below-low, below-split, below-same, lowest-below}
-use Rattle.integers.proofs.Width.{fits-is, widen-size}
+use Rattle.integers.proofs.{Width.{fits-is, widen-size}, Digits.{cleared-is, digit-law}}
 
 -- ---- `x >> d`
 pub floor-machine : {x : ℤ} (d : ℕ) → SFits w64 x → SFits w64 (floorBy x d)

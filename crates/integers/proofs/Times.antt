@@ -1,4 +1,5 @@
 -- Laws of the product that the library of ℤ lacks. Assumes nothing.
+-- Proved here: `plus-times`, `times-assoc`, `times-plus`, `neg-times`, `times-neg`.
 use mathlib.Core.Path.{_≡_, ap}
 use Prim.Native.Nat.{ℕ, _*_}
 use lib.IntN.{ℤ, negℤ, _+ℤ_, _*ℤ_, *ℤ-comm}

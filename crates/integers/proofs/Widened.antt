@@ -1,4 +1,5 @@
 -- An i32 that the code widens to an i64. Assumes nothing.
+-- Proved here: `wide`, `widened`, `sum-wide`.
 use mathlib.Core.Path.{_≡_, _∙_}
 use lib.IntN.{ℤ, pos, _+ℤ_, _-ℤ_}
 use mir.Syntax.{w32, w64}

@@ -1,4 +1,7 @@
 -- Laws of "x fits n digits", at every width: what fits, and that sums and products of what fits stay inside an i64. Assumes nothing.
+-- Proved here: `lies-true`, `lies-low`, `lies-high`, `eqZ-same`, `same-eqZ`, `fits-size`, `by-fits`, `fits-is`, `fits-more`, `fits-machine`,
+-- `fits-turned`, `fits-floor`, `fits-low`, `sum-size`, `sum-machine`, `widen-size`, `widen-is`, `widen-machine`, `product-size`, `times-bound`,
+-- `carry-past`.
 use mathlib.Core.Path.{_≡_, refl, sym, ap, _∙_}
 use mathlib.Core.Bool.{Bool, true, false}
 use Prim.Native.Nat.{ℕ, zero, suc, _+_, _*_, _-_, _^_, _<_, _≤_, max}

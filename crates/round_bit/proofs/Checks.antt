@@ -1,4 +1,6 @@
 -- What a done answer and a passed check of each operation tell, and the definitions by depth at a depth that is not 0. Assumes nothing.
+-- Proved here: `word-done`, `word-outcome`, `cut-passed`, `widen-passed`, `sum-passed`, `product-passed`, `cut-made`, `rest-made`, `cut-bit`,
+-- `rest-bit`.
 use Prim.Native.Nat.{ℕ, zero, suc, _-_}
 use native.Mathlib.Omega.{arith}
 use mathlib.Core.Path.{_≡_, refl}

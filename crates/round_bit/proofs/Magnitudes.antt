@@ -1,4 +1,5 @@
 -- The operands of a product made non-negative, as its code meets them. Assumes nothing.
+-- Proved here: `is-pos`, `magnitude-product-is`, `bit`, `positive`, `size`, `magnitude-right`, `product-room`.
 use Prim.Native.Nat.{ℕ, _+_, _-_, _*_, _^_, _≤_}
 use native.Mathlib.Omega.{arith}
 use native.Mathlib.Nat.{mul-le-mul, le-trans}

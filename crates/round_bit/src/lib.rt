@@ -317,7 +317,7 @@ fn sum_check(x: RoundBitWord, y: RoundBitWord) -> Outcome
     } else if let Outcome::Refused(c) = words::round_bit_check(y) {
         Outcome::Refused(c)
     } else {
-        words::refuse(Cause::Mismatch, words::differ(x.format, y.format))
+        words::refuse_for(Cause::Mismatch, words::differ(x.format, y.format))
     }
 }
 

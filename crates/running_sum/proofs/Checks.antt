@@ -1,4 +1,5 @@
 -- What the checks of a running sum come to. Assumes nothing.
+-- Proved here: `depth-some`, `depth-none`, `depth-passed`, `cut-told`.
 use Prim.Native.Nat.{ℕ, _-_}
 use native.Mathlib.Omega.{arith}
 use mathlib.Core.Path.{_≡_, refl, sym, _∙_}

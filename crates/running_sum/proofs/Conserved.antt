@@ -1,4 +1,6 @@
 -- Why nothing creeps: one call of a running sum, and any list of calls. Assumes nothing.
+-- Proved here: `step-outcome`, `refused-unchanged`, `nothing-value`, `sum-tells`, `step-conserves`, `step-format`, `put-blank`, `hand-out-small`,
+-- `empty-nothing`, `step-keeps`, `shut-step`.
 use Prim.Native.Nat.{ℕ, _^_, _≤_}
 use mathlib.Core.Path.{_≡_, refl, sym, ap, _∙_}
 use lib.IntN.{ℤ, pos, natAbs, _+ℤ_, _-ℤ_, _*ℤ_, +ℤ-idr, +ℤ-idl}
@@ -6,11 +8,9 @@ use Rattle.integers.proofs.Kit.{ints, plus-law, minus-law, times-law}
 use Rattle.words.specs.Refusals.{_orElse_, differ, refuseFor, blankFormat}
 use Rattle.words.specs.Words.{value}
 use Rattle.words.specs.RoundBit.{roundBitValue, roundBitCheck}
-use Rattle.words.specs.declared.Cause.{Cause}
-use Rattle.words.specs.declared.Cause.the-variants.{Mismatch}
+use Rattle.words.specs.declared.Cause.{Cause, the-variants.{Mismatch}}
 use Rattle.words.specs.declared.Format.{Format}
-use Rattle.words.specs.declared.Outcome.{Outcome}
-use Rattle.words.specs.declared.Outcome.the-variants.{Done, Refused}
+use Rattle.words.specs.declared.Outcome.{Outcome, the-variants.{Done, Refused}}
 use Rattle.words.specs.declared.RoundBitWord.{RoundBitWord}
 use Rattle.words.specs.declared.RoundBitAnswer.{RoundBitAnswer}
 use Rattle.words.proofs.Laws.{refused-not-done, both-passed, three-passed, passed, round-bit-right, round-bit-passes}

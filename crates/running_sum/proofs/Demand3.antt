@@ -2,6 +2,7 @@
 -- half a coarse unit. Right after emptying the two totals are equal." For one running sum, from its opening through any calls, refused
 -- ones among them. The totals are in specs/Totals.antt and know nothing of what is kept. Values are in half units of the sum's unit, so
 -- half a coarse unit is 2 ^ depth. Assumes nothing.
+-- Proved here: `totals`, `unchanged`, `never-refused`, `always-refused`, `kept-small`, `totals-near`, `totals-equal`, `demand-3`.
 use Prim.Native.Nat.{ℕ, _^_, _≤_}
 use mathlib.Core.Path.{_≡_, refl, sym, ap, _∙_, subst}
 use mathlib.Core.List.{List, [], _∷_, _++_}

@@ -1,6 +1,8 @@
 -- Demand 3 of the code itself. A link is a sum, a call made on it, what it answered, and the sum that came back, in which the answer meets
 -- the contract of the call's method: `Post` is generated from the method's `ensures`. Any chain of links that begins with what an opening
 -- gave, each beginning where the last ended, answers and ends as the definitions do, so the theorem holds of it. Assumes nothing.
+-- Proved here: `meets-step`, `linked-refused`, `linked-totals`, `linked-unchanged`, `linked-passes`, `linked-shut`, `linked-small`, `linked-near`,
+-- `linked-equal`.
 use Prim.Native.Nat.{ℕ, _^_, _≤_}
 use mathlib.Core.Path.{_≡_, refl, sym, ap, _∙_, subst}
 use mathlib.Core.List.{List, [], _∷_, _++_, map}

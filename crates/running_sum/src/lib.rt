@@ -51,7 +51,7 @@ pub struct EmptyAnswer {
 fn depth_check(f: Format, d: u64) -> Outcome
     ensures { λ r. ⌜ r ≡ depthCheck f d ⌝ }
 {
-    if let Outcome::Refused(c) = words::refuse(Cause::Depth, d == 0) {
+    if let Outcome::Refused(c) = words::refuse_for(Cause::Depth, d == 0) {
         Outcome::Refused(c)
     } else {
         let a = words::narrower(f, d);
@@ -144,7 +144,7 @@ fn put_check(s: RunningSum, w: RoundBitWord) -> Outcome
         Outcome::Refused(c)
     } else if let Outcome::Refused(c) = words::round_bit_check(w) {
         Outcome::Refused(c)
-    } else if let Outcome::Refused(c) = words::refuse(
+    } else if let Outcome::Refused(c) = words::refuse_for(
         Cause::Mismatch,
         words::differ(s.kept.format, w.format),
     ) {
@@ -241,7 +241,7 @@ impl RunningSum {
     {
         if let Outcome::Refused(c) = words::round_bit_check(self.kept) {
             hand_out_refused(c, self)
-        } else if let Outcome::Refused(c) = words::refuse(Cause::Depth, self.depth == 0) {
+        } else if let Outcome::Refused(c) = words::refuse_for(Cause::Depth, self.depth == 0) {
             hand_out_refused(c, self)
         } else {
             let a = round_bit::cut_and_rest(self.kept, self.depth);

@@ -1,5 +1,7 @@
 -- The arms of a match on the outcome of a check, each at its own goal: `search arms` finds in what the arm was handed what the check
 -- ensures, how its outcome fell and what was answered. Assumes nothing.
+-- Proved here: `passing`, `refusing`, `answering`, `refused-into`, `done-into`, `first-refusing`, `first-passing`, `format-told`, `format-passed`,
+-- `format-refusing`, `format-passing`, `test-told`, `number-told`, `fit-refusing`, `fit-answering`.
 use Prim.Native.Nat.{ℕ}
 use mathlib.Core.Path.{_≡_, sym, ap, _∙_}
 use mathlib.Core.Bool.{Bool, true, false}

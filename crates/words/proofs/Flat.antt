@@ -1,4 +1,5 @@
 -- Answers laid flat: two that the test takes for the same are the same. Assumes nothing.
+-- Proved here: `same-flat`.
 use mathlib.Core.Path.{_≡_}
 use mathlib.Core.Bool.{true, _&&_}
 use lib.Dec.{eqb}

@@ -1,4 +1,6 @@
 -- What the refusals 5, 6 and 7 tell of a format, and when they are not given. Assumes nothing.
+-- Proved here: `unit-good`, `digits-left`, `narrower-right`, `narrower-done`, `answer-right`, `answer-done`, `answer-outcome`, `answer-format`,
+-- `narrower-narrower`, `narrower-wider`, `narrower-none`, `narrower-passes`, `narrower-first`, `narrower-then`.
 use Prim.Native.Nat.{ℕ, _+_, _-_, _≤_}
 use native.Mathlib.Omega.{arith}
 use mathlib.Core.Path.{_≡_, refl}

@@ -1,4 +1,6 @@
 -- What the checks of two operands and the refusal 8 tell, and that a done answer passed its check, for every kind of word. Assumes nothing.
+-- Proved here: `same-format`, `format-same`, `both-right`, `right-both`, `fit-passed`, `fit-passes`, `done-passed`, `done-fits`, `outcome-kept`,
+-- `operands-right`, `right-operands`, `first`, `second`, `carry`, `two`, `all`, `sums`, `wider-right`.
 use Prim.Native.Nat.{ℕ, _-_, _^_, _<_, _≤_}
 use native.Mathlib.Omega.{arith}
 use mathlib.Core.Path.{_≡_, refl, sym, _∙_}

@@ -1,5 +1,6 @@
 -- What is right: 0, and what stays right: a sign change, a floor, the low digits, a widening and a doubling of a right number, and its lowest digit cleared.
 -- Assumes nothing.
+-- Proved here: `nothing-right`, `turned-right`, `floor-right`, `low-right`, `widened-right`, `cleared-right`, `doubled-right`.
 use Prim.Native.Nat.{ℕ, suc, _+_, _-_, _*_, _^_, _≤_}
 use native.Mathlib.Omega.{arith}
 use native.Mathlib.Nat.{lt-of-lt-of-le}

@@ -2,7 +2,7 @@
 use mathlib.Core.Path.{sym, _∙_}
 use Rattle.integers.specs.OneOutcome.{OneResult}
 use Rattle.words.proofs.number_of.Reads as number-of
-use Rattle.words.proofs.refuse.Reads as refuse
+use Rattle.words.proofs.refuse_for.Reads as refuse-for
 use Rattle.words.proofs.or_else.Reads as or-else
 use Rattle.words.proofs.bad_unit.Reads as bad-unit
 use Rattle.words.proofs.outside.Reads as outside
@@ -29,8 +29,8 @@ use Rattle.words.proofs.half_unit_fitted.Reads as half-unit-fitted
 number-of-one : OneResult (number-of.Post tt)
 number-of-one a x y e f p q = p ∙ sym q
 
-refuse-one : OneResult (refuse.Post tt)
-refuse-one a x y e f p q = p ∙ sym q
+refuse-for-one : OneResult (refuse-for.Post tt)
+refuse-for-one a x y e f p q = p ∙ sym q
 
 or-else-one : OneResult (or-else.Post tt)
 or-else-one a x y e f p q = p ∙ sym q

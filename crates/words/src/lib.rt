@@ -117,7 +117,7 @@ pub fn number_of(o: Outcome) -> u32
 }
 
 // The cause, where its test holds.
-pub fn refuse(c: Cause, test: bool) -> Outcome
+pub fn refuse_for(c: Cause, test: bool) -> Outcome
     ensures { λ r. ⌜ r ≡ refuseFor c test ⌝ }
 {
     if test {
@@ -184,10 +184,10 @@ pub fn format_check(f: Format) -> Outcome
 {
     let width = bad_width(f);
     let unit = bad_unit(f);
-    if let Outcome::Refused(c) = refuse(Cause::Width, width) {
+    if let Outcome::Refused(c) = refuse_for(Cause::Width, width) {
         Outcome::Refused(c)
     } else {
-        refuse(Cause::Unit, unit)
+        refuse_for(Cause::Unit, unit)
     }
 }
 
@@ -198,7 +198,7 @@ fn word_check(f: Format, x: i64, r: u8) -> Outcome
     if let Outcome::Refused(c) = format_check(f) {
         Outcome::Refused(c)
     } else {
-        refuse(Cause::Number, outside(f, x) | bad_round_bit(r))
+        refuse_for(Cause::Number, outside(f, x) | bad_round_bit(r))
     }
 }
 

@@ -1,4 +1,5 @@
 -- Which texts a scan from the start finds good, and that those are the steps of bits. Assumes nothing.
+-- Proved here: `steps-no-fault`, `byte-kind`, `bit`, `tells`, `stepping`, `fault-at`, `good-stepping`.
 use Prim.Native.Nat.{ℕ, zero, suc, _≤_, _<_}
 use native.Mathlib.Nat.{not-suc-le-zero, le-of-suc-le-suc}
 use native.Mathlib.Omega.{arith}

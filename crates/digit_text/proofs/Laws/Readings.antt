@@ -1,4 +1,5 @@
 -- Texts that are read: the word of a reading, and that reading and writing go back and forth. Assumes nothing.
+-- Proved here: `read-closed`, `write-read`, `write-read-minus-one`, `read-write`.
 use Prim.Native.Nat.{ℕ, zero, suc, _≤_}
 use native.Mathlib.Omega.{arith}
 use mathlib.Core.Path.{_≡_, refl}

@@ -1,4 +1,5 @@
 -- The signs of a list of bytes: the one nearest before an index, and what the first and the last of them decide. Assumes nothing.
+-- Proved here: `place`, `before`, `sign`, `between`, `sign-found`, `found-sign`, `sign-from-none`, `sign-from-cons`, `leads`, `last-sign`.
 use Prim.Native.Nat.{ℕ, zero, suc, _≤_, _<_}
 use native.Mathlib.Nat.{not-suc-le-zero, le-of-suc-le-suc, eq-or-lt-of-le}
 use native.Mathlib.Omega.{arith}

@@ -1,4 +1,6 @@
 -- What a list of bytes is worth, in parts and at most, and the texts whose digits are the steps of bits. Assumes nothing.
+-- Proved here: `nothing-worth`, `cons-law`, `cut-off`, `value-small`, `steps-bits`, `steps-rest`, `step-law`, `steps-low`, `steps-high`, `steps-fit`,
+-- `steps-near`, `bit-below-le`, `digits-length`, `digits-steps`, `digits-value`, `steps-read`.
 use Prim.Native.Nat.{ℕ, zero, suc, _+_, _-_, _*_, _^_, _≤_, _<_}
 use native.Mathlib.Nat.{pow-succ', mul-le-mul-right, not-suc-le-zero}
 use native.Mathlib.Omega.{arith}

@@ -1,4 +1,5 @@
 -- Written texts: their value, their signs, and what a cut, a widening and a sign change do to them. Assumes nothing.
+-- Proved here: `text-is`, `text-length`, `text-value`, `text-good`, `cut-text`, `widen-text`, `sign-text`.
 use Prim.Native.Nat.{ℕ, zero, suc, _+_, _-_, _*_, _^_, _≤_, _<_}
 use native.Mathlib.Nat.{zero-add, add-zero}
 use native.Mathlib.Omega.{arith}

@@ -11,7 +11,7 @@ returns-2 : tie.Need-returns-2
 unfolding writeCheck
 returns-2 c =
     let told = c .before .before in
-    rw (← told .before .before .round-bit-check .ensures, told .enum-told .given .1, c .refuse .ensures)
+    rw (← told .before .before .round-bit-check .ensures, told .enum-told .given .1, c .refuse-for .ensures)
 
 pub write-check-spec : {M : Type 1} → statement M
 write-check-spec =

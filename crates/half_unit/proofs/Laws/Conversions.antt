@@ -1,4 +1,7 @@
 -- From and to plain, from and to round-bit: what they do to values. Assumes nothing.
+-- Proved here: `from-plain-agree`, `from-plain-up-closed`, `from-plain-even-closed`, `to-plain-closed`, `to-round-bit-closed`, `from-round-bit-closed`,
+-- `from-plain-up-value`, `from-plain-even-value`, `from-plain-up-tie`, `from-plain-even-tie`, `from-plain-even-even`, `from-plain-up-greater`,
+-- `to-plain-value`, `to-round-bit-value`, `to-from-plain`, `from-round-bit-middle`.
 use Prim.Native.Nat.{ℕ, zero, suc, _+_, _*_, _^_, _≤_}
 use native.Mathlib.Omega.{arith}
 use mathlib.Core.Path.{_≡_, refl, ap}

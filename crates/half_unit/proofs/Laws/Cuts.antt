@@ -1,4 +1,6 @@
 -- Sign change and cut: what they do to values, and to each other. Assumes nothing.
+-- Proved here: `floor-moves`, `answer-closed`, `sign-change-closed`, `cut-word-passes`, `cut-closed`, `sign-change-value`, `sign-change-twice`,
+-- `cut-value`, `cut-none`, `cut-cut`, `cut-sign-outcome`, `cut-sign`.
 use Prim.Native.Nat.{ℕ, _+_, _*_, _^_, _<_}
 use native.Mathlib.Omega.{arith}
 use mathlib.Core.Path.{_≡_, refl, sym, ap, _∙_}

@@ -1,4 +1,6 @@
 -- The two sums and the product: what they do to values, and to each other. Assumes nothing.
+-- Proved here: `sum-up-closed`, `sum-even-closed`, `product-closed`, `sum-up-value`, `sum-even-value`, `sum-even-lowest`, `sum-up-comm`,
+-- `sum-even-comm`, `sum-same-outcome`, `product-value`, `product-comm`.
 use Prim.Native.Nat.{suc, _+_, _-_}
 use native.Mathlib.Omega.{arith}
 use mathlib.Core.Path.{_≡_, refl, sym}

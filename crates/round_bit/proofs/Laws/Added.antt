@@ -1,4 +1,5 @@
 -- The sum of two numbers and their round bits, apart from any word. Assumes nothing.
+-- Proved here: `added-value`, `added-bit`, `added-comm`, `added-counts`, `added-signs`, `added-self`.
 use Prim.Native.Nat.{ℕ, _+_, _-_, _≤_, min}
 use native.Mathlib.Omega.{arith}
 use mathlib.Core.Path.{_≡_}

@@ -1,4 +1,5 @@
 -- The way to and from plain words: it keeps the value, what it refuses, and that it goes back. Assumes nothing.
+-- Proved here: `to-plain-closed`, `from-plain-closed`, `to-plain-value`, `from-plain-value`, `from-to-plain`, `to-plain-refuses`, `to-plain-past`.
 use Prim.Native.Nat.{ℕ, _-_, _^_}
 use native.Mathlib.Omega.{arith}
 use mathlib.Core.Path.{_≡_, refl, sym, _∙_}

@@ -1,4 +1,6 @@
 -- Cut and rest: what they do to values, and to each other. Assumes nothing.
+-- Proved here: `cut-done`, `rest-done`, `cut-tells`, `cut-passes`, `cut-closed`, `rest-closed`, `cut-value`, `cut-none`, `cut-format`, `rest-format`,
+-- `cut-cut`, `cut-sign-outcome`, `cut-sign`, `rest-refuses`, `rest-value`, `rest-small`.
 use Prim.Native.Nat.{ℕ, zero, suc, _+_, _^_, _≤_}
 use native.Mathlib.Nat.{zero-add, add-zero, pow-succ'}
 use native.Mathlib.Omega.{arith}

@@ -1,4 +1,5 @@
 -- Even cut: how far it moves a value, where the new count of units is even, and where it is the cut. Assumes nothing.
+-- Proved here: `even-cut-done`, `even-cut-closed`, `even-cut-value`, `even-cut-tie`, `even-cut-plain`.
 use Prim.Native.Nat.{ℕ, zero, suc, _*_, _^_, _≤_}
 use native.Mathlib.Nat.{pow-succ'}
 use native.Mathlib.Omega.{arith}

@@ -1,4 +1,6 @@
 -- The product of two numbers and their round bits, apart from any word. Assumes nothing.
+-- Proved here: `magnitude-product-fits`, `magnitude-product-value`, `multiplied-bit`, `multiplied-size`, `multiplied-value`, `multiplied-comm`,
+-- `multiplied-sign-first`, `multiplied-sign-second`.
 use Prim.Native.Nat.{ℕ, zero, suc, _+_, _*_, _^_, _≤_, _<_}
 use native.Mathlib.Omega.{arith}
 use mathlib.Core.Path.{_≡_}

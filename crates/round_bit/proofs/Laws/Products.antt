@@ -1,4 +1,5 @@
 -- The product: its fit, its value, its operands turned round and sign-changed. Assumes nothing.
+-- Proved here: `product-closed`, `product-value`, `product-comm`, `product-sign-first`, `product-sign-second`, `product-sign-both`.
 use Prim.Native.Nat.{_+_, _-_}
 use native.Mathlib.Omega.{arith}
 use mathlib.Core.Path.{_≡_}

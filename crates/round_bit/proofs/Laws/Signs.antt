@@ -1,4 +1,6 @@
 -- The sign change of a number and its round bit, of a word, and one that is made on a condition. Assumes nothing.
+-- Proved here: `signs-twice`, `signs-value`, `signs-right`, `sign-change-passed`, `sign-change-done`, `sign-change-closed`, `sign-change-value`,
+-- `sign-change-twice`, `sum-sign-passed`, `signs-if-bit`, `signs-if-size`, `signs-if-not`, `signs-if-not-twice`, `turned-sign`, `magnitude-is-size`.
 use Prim.Native.Nat.{ℕ, _-_, _≤_}
 use native.Mathlib.Omega.{arith}
 use mathlib.Core.Path.{_≡_, refl, sym}

@@ -1,4 +1,6 @@
 -- Sum and difference: what they do to values, and to each other. Assumes nothing.
+-- Proved here: `sum-format`, `sum-done`, `sum-closed`, `difference-closed`, `sum-value`, `sum-comm`, `sum-zero`, `zero-sum`, `sum-grouped`,
+-- `sum-sign-value`, `sum-sign-digits`, `difference-value`, `difference-self`.
 use Prim.Native.Nat.{ℕ, _+_, _-_, _^_, _≤_, _<_, min}
 use native.Mathlib.Omega.{arith}
 use mathlib.Core.Path.{_≡_, refl, sym, ap, _∙_}

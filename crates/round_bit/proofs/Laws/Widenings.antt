@@ -1,4 +1,5 @@
 -- Widening on the right: it keeps the value, and a cut by the same depth takes it back. Assumes nothing.
+-- Proved here: `widen-done`, `widen-tells`, `widen-closed`, `widen-value`, `widen-cut-word`, `widen-cut`.
 use Prim.Native.Nat.{ℕ, zero, suc, _-_, _*_, _^_, _≤_}
 use mathlib.Core.Path.{_≡_, sym, ap, _∙_}
 use lib.Pow.{suc-ones}

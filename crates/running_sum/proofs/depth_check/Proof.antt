@@ -11,13 +11,13 @@ returns : tie.Need-returns
 returns c =
     let asked = c .before .before .before in
     let s = asked .before .args in
-    depth-none (s .f) (s .d) _ (sym (asked .refuse .ensures) ∙ c .before .c .given .1)
+    depth-none (s .f) (s .d) _ (sym (asked .refuse-for .ensures) ∙ c .before .c .given .1)
 
 returns-2 : tie.Need-returns-2
 returns-2 c =
     let asked = c .before .before .before in
     let s = asked .before .args in
-    let some = passed Depth _ (sym (asked .refuse .ensures) ∙ c .before .enum-told .given .1) in
+    let some = passed Depth _ (sym (asked .refuse-for .ensures) ∙ c .before .enum-told .given .1) in
     rw (c .narrower .ensures, answer-outcome) (sym (depth-some (s .f) (s .d) some))
 
 pub depth-check-spec : {M : Type 1} → statement M

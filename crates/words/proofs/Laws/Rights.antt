@@ -1,5 +1,7 @@
 -- What a passed check of a format and of a word tells, and what it asks: `right-format`, `format-right`, `right`, `word-right`, `small`,
 -- `machine`, `blank-right`, and the same of each kind of word. Assumes nothing.
+-- Proved here: `narrow`, `wide`, `fine`, `coarse`, `format`, `size`, `bit`, `plain-right`, `plain-passes`, `round-bit-right`, `round-bit-passes`,
+-- `half-unit-right`, `half-unit-passes`.
 use Prim.Native.Nat.{ℕ, _-_, _^_, _≤_, _<_}
 use native.Mathlib.Nat.{lt-of-lt-of-le}
 use native.Mathlib.Omega.{arith}

@@ -7,7 +7,7 @@ returns : tie.Need-returns
 unfolding formatCheck
 returns c =
     let b = c .before .before .before in
-    rw (← b .before .before .bad-width .ensures, ← b .refuse .ensures, c .before .c .given .1)
+    rw (← b .before .before .bad-width .ensures, ← b .refuse-for .ensures, c .before .c .given .1)
 
 returns-2 : tie.Need-returns-2
 unfolding formatCheck
@@ -15,9 +15,9 @@ returns-2 c =
     let b = c .before .before .before in
     rw (
       ← b .before .before .bad-width .ensures,
-      ← b .refuse .ensures,
+      ← b .refuse-for .ensures,
       c .before .enum-told .given .1,
-      c .refuse2 .ensures,
+      c .refuse-for2 .ensures,
       b .before .bad-unit .ensures,
     )
 

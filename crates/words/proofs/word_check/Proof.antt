@@ -15,7 +15,7 @@ returns-2 c =
     rw (
       ← b .before .before .format-check .ensures,
       b .enum-told .given .1,
-      c .refuse .ensures,
+      c .refuse-for .ensures,
       c .before .bad-round-bit .ensures,
       c .before .before .outside .ensures,
       toZ-ofZ (b .before .before .before .fits .x),

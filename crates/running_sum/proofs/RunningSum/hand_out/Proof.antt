@@ -12,14 +12,14 @@ use Rattle.running_sum.proofs.RunningSum.hand_out.Tie as tie
 
 -- past the check of the depth
 module _ (c : tie.After-cut-and-rest) where
-  abbrev asked : tie.After-refuse
+  abbrev asked : tie.After-refuse-for
   asked = c .before .before .before
 
   abbrev start : tie.Start
   start = asked .before .before .before .before .before
 
   told : runningSumCheck (start .args .self) ≡ c .cut-and-rest .result .outcome
-  told = cut-told (start .args .self) _ (passed Depth _ (sym (asked .refuse .ensures) ∙ c .before .enum-told2 .given .1)) (c .cut-and-rest .ensures)
+  told = cut-told (start .args .self) _ (passed Depth _ (sym (asked .refuse-for .ensures) ∙ c .before .enum-told2 .given .1)) (c .cut-and-rest .ensures)
 
   rest-fits : SFits w64 (c .cut-and-rest .result .rest .number .0)
   rest-fits = search needs
@@ -36,7 +36,7 @@ returns-2 c =
     let deep = c .before .before .before .before in
     let checked = deep .before .before .before .before in
     let s = checked .before .args .self in
-    let none = depth-none (s .kept .format) (s .depth) _ (sym (deep .refuse .ensures) ∙ c .before .before .c2 .given .1) in
+    let none = depth-none (s .kept .format) (s .depth) _ (sym (deep .refuse-for .ensures) ∙ c .before .before .c2 .given .1) in
     rw (c .hand-out-refused2 .ensures, ← checked .round-bit-check .ensures, deep .before .before .enum-told .given .1, ← none)
 
 returns-3 : tie.Need-returns-3
