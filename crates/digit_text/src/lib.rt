@@ -13,6 +13,7 @@ ghost use lib.Dec.{eqb};
 ghost use lib.IntN.{pos, _-ℤ_};
 ghost use lib.ListN.{length};
 ghost use Rattle.integers.specs.Lists.{over};
+ghost use Rattle.words.specs.Words.{mostWidth};
 ghost use Rattle.words.specs.RoundBit.{roundBitRefused, roundBitDone};
 ghost use Rattle.digit_text.specs.Digits.{none, signedDigit, byteOf, digitOf, byteAt, textValue, writeCheck, writeOf, bufferOf};
 ghost use Rattle.digit_text.specs.Reading.{strange, firstFault, readCheck, readRound, readWord, readAnswer, readOf};
@@ -125,15 +126,23 @@ fn first_fault(text: &[u8]) -> usize
     k
 }
 
+// The ends of the widths, in the type of a length.
+const LEAST_WIDTH: usize = words::LEAST_WIDTH as usize;
+
+const MOST_WIDTH: usize = words::MOST_WIDTH as usize;
+
 fn read_check(text: &[u8], unit: i32) -> Outcome
     ensures { λ r. ⌜ r ≡ readCheck (now (text .entry)) unit ⌝ }
 {
     let n = text.len();
-    if let Outcome::Refused(c) = words::refuse_for(Cause::Width, !((2 <= n) & (n <= 63))) {
+    if let Outcome::Refused(c) = words::refuse_for(
+        Cause::Width,
+        !((LEAST_WIDTH <= n) & (n <= MOST_WIDTH)),
+    ) {
         Outcome::Refused(c)
     } else if let Outcome::Refused(c) = words::refuse_for(
         Cause::Unit,
-        !((-127 <= unit) & (unit <= 127)),
+        !((words::LEAST_UNIT <= unit) & (unit <= words::MOST_UNIT)),
     ) {
         Outcome::Refused(c)
     } else {
@@ -153,7 +162,7 @@ fn digit_of(b: u8) -> i64
 
 // What the text is worth.
 fn text_value(text: &[u8]) -> i64
-    requires { ⌜ length (now text) ≤ 63 ⌝ }
+    requires { ⌜ length (now text) ≤ mostWidth ⌝ }
     ensures { λ r. ⌜ r ≡ textValue (now (text .entry)) ⌝ }
 {
     let mut value = 0;

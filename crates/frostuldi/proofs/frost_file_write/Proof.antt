@@ -6,7 +6,8 @@ use Rattle.frostuldi.proofs.frost_file_write.Tie as tie
 returns : tie.Need-returns
 returns c =
     let w = c .before .before .before in
-    let u = toZ-ofZ (w .before .before .before .before .fits .unit) in
+    let s = w .before .before .before .before in
+    let u = toZ-ofZ (s .fits .unit) in
     (rw (c .written-out .ensures, w .write .ensures .0, u), rw u at (w .write .ensures .1))
 
 pub frost-file-write-spec : {M : Type 1} → statement M

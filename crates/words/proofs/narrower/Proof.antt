@@ -15,19 +15,22 @@ use Rattle.words.proofs.narrower.Tie as tie
 
 -- the unit, and the unit and d together, as an i64
 module _ (c : tie.After-struct-told) where
-  small : c .before .before .before .before .before .args .d < 2 ^ 32
+  abbrev s : tie.Start
+  s = c .before .before .before .before .before
+
+  small : s .args .d < 2 ^ 32
   small =
-      let width : Fits w32 (c .before .before .before .before .before .args .f .width) = search needs in
+      let width : Fits w32 (s .args .f .width) = search needs in
       omega (arith, width, c .before .before .if2 .left)
 
-  unit : SFits w32 (c .before .before .before .before .before .args .f .unit)
+  unit : SFits w32 (s .args .f .unit)
   unit = search needs
 
-  depth : toZ w64 (c .before .before .before .before .before .args .d) ≡ pos (c .before .before .before .before .before .args .d)
+  depth : toZ w64 (s .args .d) ≡ pos (s .args .d)
   depth = toZ-pos w64 (omega (arith, small))
 
-  moved : let a = c .before .before .before .before .before .args in SFits w64 (a .f .unit +ℤ pos (a .d))
-  moved = let a = c .before .before .before .before .before .args in omega (ints, unit, small, plus-law (a .f .unit) (pos (a .d)))
+  moved : SFits w64 (s .args .f .unit +ℤ pos (s .args .d))
+  moved = omega (ints, unit, small, plus-law (s .args .f .unit) (pos (s .args .d)))
 
 add-placed : tie.Need-add-placed
 add-placed c = rw (widened (unit c), depth c) (moved c)

@@ -7,10 +7,13 @@ use Rattle.words.proofs.units_multiplied.Statement.{statement}
 use Rattle.words.proofs.units_multiplied.Tie as tie
 
 module _ (c : tie.After-struct-told2) where
-  first : SFits w32 (c .before .before .before .before .args .f .unit)
+  abbrev s : tie.Start
+  s = c .before .before .before .before
+
+  first : SFits w32 (s .args .f .unit)
   first = search needs
 
-  second : SFits w32 (c .before .before .before .before .args .g .unit)
+  second : SFits w32 (s .args .g .unit)
   second = search needs
 
 add-result : tie.Need-add-result

@@ -15,16 +15,19 @@ use Rattle.words.proofs.wider.Tie as tie
 
 -- the unit, and the unit less d, as an i64
 module _ (c : tie.After-struct-told) where
-  unit : SFits w32 (c .before .before .before .before .args .f .unit)
+  abbrev s : tie.Start
+  s = c .before .before .before .before
+
+  unit : SFits w32 (s .args .f .unit)
   unit = search needs
 
-  depth : toZ w64 (c .before .before .before .before .args .d) ≡ pos (c .before .before .before .before .args .d)
+  depth : toZ w64 (s .args .d) ≡ pos (s .args .d)
   depth = toZ-pos w64 (omega arith)
 
-  moved : SFits w64 (c .before .before .before .before .args .f .unit -ℤ pos (c .before .before .before .before .args .d))
+  moved : SFits w64 (s .args .f .unit -ℤ pos (s .args .d))
   moved =
-      let u = c .before .before .before .before .args .f .unit in
-      let d = c .before .before .before .before .args .d in
+      let u = s .args .f .unit in
+      let d = s .args .d in
       let h : d < 64 = omega arith in
       omega (ints, unit, minus-law u (pos d))
 
