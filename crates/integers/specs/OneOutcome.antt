@@ -1,5 +1,5 @@
--- What "only one outcome meets the contract" says. A function's generated `Post` is its contract as
--- the source has it: of the arguments, the result and the parameters at exit. Each crate's
+-- What it is that only one outcome meets a contract. A function's generated `Post` is its contract
+-- as the source has it: of the arguments, the result and the parameters at exit. Each crate's
 -- Unique.antt shows these of every public function.
 use mathlib.Core.Path.{_≡_}
 use mathlib.Core.List.{List}

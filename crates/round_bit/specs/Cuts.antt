@@ -22,11 +22,12 @@ signChangeWord w = record { number = signChanged (w .number); format = w .format
 abbrev pub signChangeOf : RoundBitWord → RoundBitAnswer
 signChangeOf w = roundBitCheck w andThen roundBitDone (signChangeWord w)
 
--- "For d >= 1 the answer is (floor(a / 2^d), ..), width n-d, unit e+d. The old round bit is
--- dropped."
+-- a cut by the rule of the new round bit
 unfoldable pub cutBy : (ℤ → ℕ → ℕ) → RoundBitWord → ℕ → RoundBitWord
 -- "d = 0 returns the word."
 cutBy rule w zero = w
+-- "For d >= 1 the answer is (floor(a / 2^d), ..), width n-d, unit e+d. The old round bit is
+-- dropped."
 cutBy rule w (suc k) =
     roundBitWord (floorBy (w .number .0) (suc k)) (rule (w .number .0) k)
     (narrower (w .format) (suc k))

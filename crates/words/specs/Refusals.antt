@@ -9,7 +9,7 @@ use Rattle.words.specs.declared.Outcome.{Outcome}
 use Rattle.words.specs.declared.Outcome.the-variants.{Done, Refused}
 use Rattle.words.specs.declared.Format.{Format}
 use Rattle.words.specs.declared.WriteAnswer.{WriteAnswer}
-use Rattle.words.specs.Words.{leastWidth, badWidth, badUnit, outside, badRoundBit}
+use Rattle.words.specs.Words.{badWidth, badUnit, outside, badRoundBit}
 
 -- the table: each cause once, and below the number of each, which docs/REFUSALS.md has in words
 abbrev pub causes : List Cause
@@ -41,11 +41,12 @@ abbrev pub refuseFor : Cause → Bool → Outcome
 refuseFor c true = Refused c
 refuseFor c false = Done
 
--- the row of the table that has this number, as the refusal for it; Done where there is none
+-- this row, where it is the one that is looked for, and else what comes of the rows below
 abbrev pub firstOf : Bool → Cause → Outcome → Outcome
 firstOf true c o = Refused c
 firstOf false c o = o
 
+-- the row of the table that has this number, as the refusal for it; Done where there is none
 abbrev pub rowIn : List Cause → ℕ → Outcome
 rowIn [] n = Done
 rowIn (c ∷ more) n = firstOf (eqb (causeNumber c) n) c (rowIn more n)
@@ -53,8 +54,7 @@ rowIn (c ∷ more) n = firstOf (eqb (causeNumber c) n) c (rowIn more n)
 abbrev pub row : ℕ → Outcome
 row n = rowIn causes n
 
--- `refuse n test`: the refusal that the table numbers n. For a number that the table lacks there is
--- none, and `refuse 13 test` has no type
+-- a test's refusal, where a row was found, and else nothing that takes a test
 abbrev pub Refuse : Outcome → Type 0
 Refuse (Refused c) = Bool → Outcome
 Refuse Done = record {}
@@ -63,6 +63,8 @@ abbrev refuseAt : (o : Outcome) → Refuse o
 refuseAt (Refused c) = refuseFor c
 refuseAt Done = record {}
 
+-- `refuse n test`: the refusal that the table numbers n. For a number that the table lacks there is
+-- none, and `refuse 13 test` has no type
 abbrev pub refuse : (n : ℕ) → Refuse (row n)
 refuse n = refuseAt (row n)
 
@@ -87,7 +89,7 @@ differ f g = not (eqb (f .width) (g .width) && eqZ (f .unit) (g .unit))
 -- "A refusal returns the blank word (number 0, round bit 0, width 2, unit 0)": its format, and the
 -- choice between that answer and another
 abbrev pub blankFormat : Format
-blankFormat = record { width = leastWidth; unit = pos 0 }
+blankFormat = record { width = 2; unit = pos 0 }
 
 abbrev pub after : {A : Type 0} → (Cause → A) → Outcome → A → A
 after refused Done answer = answer
