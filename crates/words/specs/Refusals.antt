@@ -5,6 +5,7 @@ use Rattle.words.specs.declared.Cause.{Cause}
 use Rattle.words.specs.declared.Cause.the-variants.{Width, Unit, Number, Mismatch}
 use Rattle.words.specs.declared.Cause.the-variants.{Depth, WidthPast, UnitPast, NumberPast}
 use Rattle.words.specs.declared.Cause.the-variants.{DigitText, Buffer, Mark, Form}
+use Rattle.words.specs.declared.Cause.the-variants.{Channel}
 use Rattle.words.specs.declared.Outcome.{Outcome}
 use Rattle.words.specs.declared.Outcome.the-variants.{Done, Refused}
 use Rattle.words.specs.declared.Format.{Format}
@@ -15,7 +16,7 @@ use Rattle.words.specs.Words.{badWidth, badUnit, outside, badRoundBit}
 abbrev pub causes : List Cause
 causes =
     Width ∷ Unit ∷ Number ∷ Mismatch ∷ Depth ∷ WidthPast ∷ UnitPast ∷ NumberPast
-    ∷ DigitText ∷ Buffer ∷ Mark ∷ Form ∷ []
+    ∷ DigitText ∷ Buffer ∷ Mark ∷ Form ∷ Channel ∷ []
 
 abbrev pub causeNumber : Cause → ℕ
 causeNumber Width = 1
@@ -30,6 +31,7 @@ causeNumber DigitText = 9
 causeNumber Buffer = 10
 causeNumber Mark = 11
 causeNumber Form = 12
+causeNumber Channel = 17
 
 -- "Done is 0."
 abbrev pub numberOf : Outcome → ℕ

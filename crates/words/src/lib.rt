@@ -30,6 +30,7 @@ pub enum Cause {
     Buffer,
     Mark,
     Form,
+    Channel,
 }
 
 pub enum Outcome {
@@ -112,6 +113,7 @@ pub fn number_of(o: Outcome) -> u32
             Cause::Buffer => 10,
             Cause::Mark => 11,
             Cause::Form => 12,
+            Cause::Channel => 17,
         },
     }
 }
