@@ -13,6 +13,7 @@ mod fall;
 mod files;
 mod files_read;
 mod files_written;
+mod functions;
 mod huge;
 mod job;
 mod lent;
