@@ -1,5 +1,5 @@
 //! The comparison: the library under test, through its C functions, against
-//! the second program, which is written from document 01 alone.
+//! the second program, which is written from documents 01 and 02 alone.
 //! Usage: compare LISTING_PROGRAM [SEED]
 
 mod compare;

@@ -1,16 +1,18 @@
 //! If the library falls (a panic that aborts, a bad address) the whole process
 //! falls with it. This prints the case that it fell on, then ends with 1.
 
+use super::bank_case::BankCase;
 use super::case::Case;
 use std::cell::Cell;
 use std::sync::atomic::{AtomicUsize, Ordering};
 
-/// The operation, its operands if they are words, and the bytes of its text or
-/// file if it has one; the address is good for as long as the call lasts.
+/// The operation, its operands if they are words or a bank, and the bytes of its
+/// text or file if it has one; an address is good for as long as the call lasts.
 #[derive(Clone, Copy)]
 struct Call {
     name: &'static str,
     case: Option<Case>,
+    bank: *const BankCase,
     bytes: *const u8,
     length: usize,
 }
@@ -18,6 +20,7 @@ struct Call {
 const NO_CALL: Call = Call {
     name: "no call",
     case: None,
+    bank: std::ptr::null(),
     bytes: std::ptr::null(),
     length: 0,
 };
@@ -56,6 +59,17 @@ pub fn about_to_call(name: &'static str, case: Option<&Case>, bytes: &[u8]) {
         case: case.copied(),
         bytes: bytes.as_ptr(),
         length: bytes.len(),
+        ..NO_CALL
+    };
+    LAST.with(|last| last.set(call));
+}
+
+/// A bank is too large to be copied at each call.
+pub fn about_to_call_bank(name: &'static str, bank: &BankCase) {
+    let call = Call {
+        name,
+        bank,
+        ..NO_CALL
     };
     LAST.with(|last| last.set(call));
 }
@@ -83,6 +97,9 @@ extern "C" fn fell(number: i32) {
     );
     if let Some(case) = call.case {
         println!("  case:    {:?}", case);
+    }
+    if !call.bank.is_null() {
+        println!("  case:    {}", unsafe { &*call.bank }.describe());
     }
     if !call.bytes.is_null() && call.length > 0 {
         let printed = call.length.min(PRINTED_BYTES);

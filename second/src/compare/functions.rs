@@ -30,6 +30,12 @@ extern "C" {
     pub fn frost_running_sum_hand_out(sum: FrostRunningSum) -> FrostSumAnswer;
     pub fn frost_running_sum_empty(sum: FrostRunningSum) -> FrostSumAnswer;
 
+    pub fn frost_bank_output(
+        bank: FrostBank,
+        window: FrostWindow,
+        channel: u32,
+    ) -> FrostRoundBitAnswer;
+
     pub fn frost_digit_text_write(word: FrostRoundBit, text: *mut u8, room: usize) -> FrostWritten;
     pub fn frost_digit_text_read(text: *const u8, length: usize, unit: i32) -> FrostRoundBitAnswer;
 

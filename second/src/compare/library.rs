@@ -3,6 +3,7 @@
 //! looks into the header's structs.
 
 pub use super::functions::*;
+use crate::model::bank::{Bank, Row, CHANNELS, TAPS};
 use crate::model::block_file::Head;
 use crate::model::running_sum::{RunningSum, SumAnswer};
 use crate::model::words::{Answer, HalfUnit, Plain, RoundBit, Written};
@@ -127,6 +128,55 @@ impl OfModel for FrostSumAnswer {
             word: self.word.model(),
             refusal: self.refusal,
         }
+    }
+}
+
+#[repr(C)]
+#[derive(Clone, Copy)]
+pub struct FrostTaps {
+    pub taps: [FrostRoundBit; TAPS],
+}
+
+#[repr(C)]
+#[derive(Clone, Copy)]
+pub struct FrostBank {
+    pub channels: [FrostTaps; CHANNELS],
+}
+
+impl OfModel for FrostBank {
+    type Model = Bank;
+
+    fn of(model: Bank) -> FrostBank {
+        let taps = |row: Row| FrostTaps {
+            taps: row.map(OfModel::of),
+        };
+        FrostBank {
+            channels: model.map(taps),
+        }
+    }
+
+    fn model(self) -> Bank {
+        self.channels.map(|row| row.taps.map(OfModel::model))
+    }
+}
+
+#[repr(C)]
+#[derive(Clone, Copy)]
+pub struct FrostWindow {
+    pub samples: [FrostRoundBit; TAPS],
+}
+
+impl OfModel for FrostWindow {
+    type Model = Row;
+
+    fn of(model: Row) -> FrostWindow {
+        FrostWindow {
+            samples: model.map(OfModel::of),
+        }
+    }
+
+    fn model(self) -> Row {
+        self.samples.map(OfModel::model)
     }
 }
 

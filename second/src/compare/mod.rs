@@ -1,7 +1,14 @@
 //! The comparison: the library under test, through its C functions, against
 //! the model.
 
+mod bad_banks;
 mod bad_blocks;
+mod bank;
+mod bank_case;
+mod bank_refusals;
+mod bank_sheet;
+mod bank_values;
+mod bank_words;
 mod bench_sheet;
 mod blocks;
 mod call;
@@ -57,6 +64,7 @@ fn all_jobs(seed: u64, program: &str) -> Vec<Job> {
     jobs.extend(huge::jobs());
     jobs.extend(random_cases::jobs(seed));
     jobs.extend(sums::jobs(seed));
+    jobs.extend(bank::jobs(seed));
     jobs.extend(files::jobs(seed));
     jobs.extend(listings::jobs(seed, program));
     jobs

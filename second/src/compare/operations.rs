@@ -40,6 +40,8 @@ const FORMAT_DEPTH: Takes = Takes {
 /// Why a number can occur: a word as operand gives 1, 2, 3; a sum 4 and 8; a
 /// cut 5 and 7; a wider answer 6 and 7; a lent buffer 10. Widening and the
 /// products always fit, so they have no 8, and the cuts get no wider, so no 6.
+/// The bank's widths are set, so it has no 5 and no 6, and its total always
+/// fits, so no 8.
 macro_rules! and_of_words {
     ($($cause:ident),*) => {
         &[WIDTH_OUTSIDE, UNIT_OUTSIDE, NUMBER_OUTSIDE $(, $cause)*]
@@ -58,6 +60,7 @@ const OF_PUT: &[u32] =
 #[rustfmt::skip]
 const OF_OPENING: &[u32] =
     &[WIDTH_OUTSIDE, UNIT_OUTSIDE, DEPTH_OUTSIDE, ANSWER_UNIT_OUTSIDE];
+const OF_BANK: &[u32] = and_of_words![OPERANDS_DIFFER, ANSWER_UNIT_OUTSIDE, CHANNEL_OUTSIDE];
 const OF_TEXT: &[u32] = and_of_words![BUFFER_TOO_SHORT];
 /// A text has a width (its length) and a unit, but no number of its own.
 const OF_TEXT_READ: &[u32] = &[WIDTH_OUTSIDE, UNIT_OUTSIDE, TEXT_WRONG];
@@ -161,10 +164,11 @@ pub const PUT: usize = row_of("frost_running_sum_put");
 pub const HAND_OUT: usize = row_of("frost_running_sum_hand_out");
 pub const EMPTY: usize = row_of("frost_running_sum_empty");
 
-/// The operations with lent buffers, which are called elsewhere, and what is
-/// printed; their rows stand after those of the words.
+/// The operations that are called elsewhere, the bank and those with lent
+/// buffers, and what is printed; their rows stand after those of the words.
 #[rustfmt::skip]
-const BUFFERED: &[Row] = &[
+const ELSEWHERE: &[Row] = &[
+    Row { name: "frost_bank_output", refuses: OF_BANK },
     Row { name: "frost_digit_text_write", refuses: OF_TEXT },
     Row { name: "frost_digit_text_read", refuses: OF_TEXT_READ },
     Row { name: "frost_file_read", refuses: OF_FILE_READ },
@@ -174,6 +178,7 @@ const BUFFERED: &[Row] = &[
     Row { name: "listing program, printed", refuses: OF_PRINTED },
 ];
 
+pub const BANK_OUTPUT: usize = row_of("frost_bank_output");
 pub const TEXT_WRITE: usize = row_of("frost_digit_text_write");
 pub const TEXT_READ: usize = row_of("frost_digit_text_read");
 pub const FILE_READ: usize = row_of("frost_file_read");
@@ -188,7 +193,7 @@ pub fn rows() -> Vec<Row> {
         name: operation.name,
         refuses: operation.refuses,
     });
-    words.chain(BUFFERED.iter().copied()).collect()
+    words.chain(ELSEWHERE.iter().copied()).collect()
 }
 
 /// The first row of the tally with this name; a name that has none does not
@@ -201,8 +206,8 @@ pub const fn row_of(name: &str) -> usize {
         }
         row += 1;
     }
-    while row < OPERATIONS.len() + BUFFERED.len() {
-        if same(BUFFERED[row - OPERATIONS.len()].name, name) {
+    while row < OPERATIONS.len() + ELSEWHERE.len() {
+        if same(ELSEWHERE[row - OPERATIONS.len()].name, name) {
             return row;
         }
         row += 1;

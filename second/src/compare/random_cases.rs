@@ -127,7 +127,7 @@ fn number(random: &mut Random, width: u32) -> i64 {
 }
 
 /// Small numbers as often as large ones.
-fn any_narrower(random: &mut Random, width: u32) -> i128 {
+pub fn any_narrower(random: &mut Random, width: u32) -> i128 {
     let narrower = 1 + random.below(width as u64) as u32;
     any_in(random, narrower)
 }

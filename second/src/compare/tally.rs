@@ -1,7 +1,7 @@
 //! What is counted: the cases and differences of each part, and how often each
-//! operation gave each refusal number. An operation's row says, from document
-//! 01, which numbers it can give; one that did not occur, or another that did,
-//! is a failure.
+//! operation gave each refusal number. An operation's row says, from documents
+//! 01 and 02, which numbers it can give; one that did not occur, or another that
+//! did, is a failure.
 
 use crate::model::causes::{CAUSES, DONE};
 

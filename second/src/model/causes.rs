@@ -1,6 +1,6 @@
-//! Document 01, section "Refusal numbers": the table, and the order in which
-//! several causes are named.
-//! Written from document 01 alone; it shares nothing with crates/.
+//! Document 01, section "Refusal numbers": the table, with what document 02
+//! adds to it, and the order in which several causes are named.
+//! Written from documents 01 and 02 alone; it shares nothing with crates/.
 
 /// Makes a name of each number, and the list of them all.
 macro_rules! causes {
@@ -29,6 +29,7 @@ causes! {
     10 BUFFER_TOO_SHORT,
     11 MARK_OR_VERSION_WRONG,
     12 LENGTH_KIND_OR_COUNT_WRONG,
+    17 CHANNEL_OUTSIDE,
 }
 
 /// The refusal if the condition holds, else 0: lets an operation list its

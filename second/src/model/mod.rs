@@ -1,7 +1,9 @@
-//! The second program alone: document 01 once more, plain and slow.
-//! Written from document 01 alone; it shares nothing with crates/, and knows
-//! nothing of the comparison.
+//! The second program alone: document 01 once more, and of document 02 what has
+//! landed, plain and slow.
+//! Written from these documents alone; it shares nothing with crates/, and
+//! knows nothing of the comparison.
 
+pub mod bank;
 pub mod block_file;
 pub mod causes;
 pub mod digit_text;
