@@ -2,7 +2,7 @@
  * (`rt staticlib frostuldi` writes target/staticlib/libfrostuldi.a, for x86-64 Linux).
  *
  * Every function takes whatever numbers and bytes it is handed, ends, and does the work or refuses with a number
- * of document 01's table. `refusal` is 0 for done. A refusal answers the blank word (number 0, round bit 0, width 2,
+ * of the table of refusals. `refusal` is 0 for done. A refusal answers the blank word (number 0, round bit 0, width 2,
  * unit 0), changes no byte of any lent buffer and no digit of a running sum. A unit is the exponent e of 2^e.
  *
  * What no proof covers: these declarations, the stack, and a caller's pointers. No call needs more than 64 KiB of
@@ -20,7 +20,7 @@ extern "C" {
 #endif
 
 /* The version that this header declares, as 10000 * major + 100 * minor + patch. frost_version() tells the archive's. */
-#define FROST_VERSION 10000
+#define FROST_VERSION 10100
 
 /* What `refusal` says. frost_refusal_text() has each in words. */
 enum frost_refusal {
@@ -36,7 +36,8 @@ enum frost_refusal {
     FROST_REFUSED_DIGIT_TEXT = 9,
     FROST_REFUSED_BUFFER = 10,
     FROST_REFUSED_MARK = 11,
-    FROST_REFUSED_FORM = 12
+    FROST_REFUSED_FORM = 12,
+    FROST_REFUSED_CHANNEL = 17
 };
 
 /* The kind of a block file's words. */
@@ -73,6 +74,12 @@ typedef struct { frost_round_bit word; uint32_t refusal; } frost_round_bit_answe
 typedef struct { frost_round_bit kept; uint64_t depth; } frost_running_sum;
 typedef struct { frost_running_sum sum; frost_round_bit word; uint32_t refusal; } frost_sum_answer;
 
+/* A filter bank has four channels of eight taps, 12 wide, those of a channel of one unit. Its window has a sample for
+ * each tap, 16 wide, all of one unit, which need not be the taps'. Both go in by value. */
+typedef struct { frost_round_bit taps[8]; } frost_taps;
+typedef struct { frost_taps channels[4]; } frost_bank;
+typedef struct { frost_round_bit samples[8]; } frost_window;
+
 typedef struct { uint32_t refusal, kind, width; int32_t unit; uint32_t count; } frost_file_head;
 typedef struct { uint64_t bytes; uint32_t refusal; } frost_written;
 
@@ -102,6 +109,7 @@ static inline const char *frost_refusal_text(uint32_t refusal)
     case FROST_REFUSED_BUFFER: return "a lent buffer is too short for what would be written";
     case FROST_REFUSED_MARK: return "a file's mark or version is wrong";
     case FROST_REFUSED_FORM: return "a file's length, kind or count is wrong";
+    case FROST_REFUSED_CHANNEL: return "a channel of the filter bank is over 3 (Ask 1)";
     default: return "no refusal has this number";
     }
 }
@@ -136,6 +144,16 @@ frost_sum_answer frost_running_sum_open(uint32_t width, int32_t unit, uint64_t d
 frost_sum_answer frost_running_sum_put(frost_running_sum s, frost_round_bit w); /* 1, 2, 3 of both, 4, 5, 7, 8 */
 frost_sum_answer frost_running_sum_hand_out(frost_running_sum s);               /* 1, 2, 3, 5, 7 */
 frost_sum_answer frost_running_sum_empty(frost_running_sum s);                  /* 1, 2, 3, 5, 7 */
+
+/* The filter bank: one channel's output. The product of each tap with its sample, extended on the left to width 31, is
+ * added from tap 0 up, and the sum is cut by 11. So the output is 20 wide, and its unit the taps', the samples' and 11
+ * added. It refuses, in this order,
+ *   17       a channel over 3;
+ *   1, 2, 3  of that channel's taps, tap by tap, then of the samples, sample by sample;
+ *   4        taps of unlike units, samples of unlike units, a tap that is not 12 wide, a sample that is not 16 wide;
+ *   7        a unit of the products, or of the output, outside its range.
+ * The other channels' taps are not looked at. 8 never occurs. */
+frost_round_bit_answer frost_bank_output(frost_bank bank, frost_window window, uint32_t channel);
 
 /* Digit texts: `width` bytes, most significant first; the count of bytes written, 0 when refused. */
 frost_written frost_digit_text_write(frost_round_bit w, uint8_t *text, size_t room);                   /* 1, 2, 3, 10 */
