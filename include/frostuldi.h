@@ -96,12 +96,15 @@ static inline const char *frost_refusal_text(uint32_t refusal)
     case FROST_REFUSED_NUMBER:
         return "a number is outside its width, or a round bit is not 0 or 1, or a round byte in a block of kind 0 or 2 is "
                "not 0";
-    case FROST_REFUSED_MISMATCH: return "a sum's operands, or a word and its running sum, differ in width or unit";
+    case FROST_REFUSED_MISMATCH:
+        return "a sum's operands, or a word and its running sum, differ in width or unit; or a filter bank's taps, or its "
+               "samples, differ in unit, or a tap is not 12 wide or a sample not 16 (Ask 1)";
     case FROST_REFUSED_DEPTH:
         return "a cut, or a conversion with a depth, would leave fewer than 2 digits; or a running sum has, or is opened "
                "with, a depth of 0 or more than its width less 2";
     case FROST_REFUSED_WIDTH_PAST: return "the answer's width would pass 63";
-    case FROST_REFUSED_UNIT_PAST: return "the answer's unit exponent would leave -127 to 127";
+    case FROST_REFUSED_UNIT_PAST:
+        return "the answer's unit exponent, or that of a filter bank's products, would leave -127 to 127 (Ask 1)";
     case FROST_REFUSED_NUMBER_PAST: return "the answer's number does not fit its width";
     case FROST_REFUSED_DIGIT_TEXT:
         return "a digit text has a byte that is not `+`, `0` or `-`, or two nonzero digits of one sign with nothing or "
