@@ -95,6 +95,42 @@ static void running_sums(void)
     HOLDS(sum(frost_running_sum_empty(keeps(rb(-2, 1, 8, -5))), rb(0, 0, 8, -5), rb(-2, 1, 8, -5), 0));
 }
 
+/* Taps of one channel, at unit -4, and samples of the window, at unit -5. */
+static frost_round_bit tap(int64_t number, uint8_t round) { return rb(number, round, 12, -4); }
+static frost_round_bit sample(int64_t number, uint8_t round) { return rb(number, round, 16, -5); }
+
+/* Channel 2, by hand:
+ *      tap * sample                                                         product        added up
+ *   0  (100,1) * (1000,1): 100000 + 100 + 1000                              (101100,1)     (101100,1)
+ *   1  (-200,0) * (500,0): (199,1) * (500,0) = (100000,0), sign-changed     (-100001,1)    (1100,1)
+ *   2  (300,0) * (-20,0): (300,0) * (19,1) = (6000,0), sign-changed         (-6001,1)      (-4900,1)
+ *   3  (7,1) * (9,1): 63 + 7 + 9                                            (79,1)         (-4820,1)
+ *   4  (-1,1) * (9,1): (0,0) * (9,1) = (0,0), sign-changed                  (-1,1)         (-4820,1)
+ *   5  (-3,1) * (-1,0): (2,0) * (0,1)                                       (2,0)          (-4818,1)
+ *   6  (2047,1) * (32767,1): 67074049 + 2047 + 32767, the most there is     (67108863,1)   (67104046,1)
+ *   7  (1,0) * (-2350,0): (1,0) * (2349,1) = (2350,0), sign-changed         (-2351,1)      (67101696,1)
+ * This is 32764 * 2048 + 1024: one less, where two round bits add nothing, would be cut to (32764,0). Channel 1 has
+ * (1,0) for product 5 and so 1023 at last: one more, for the round bit of the sum, would be cut to (32764,1). The
+ * channels beside these two are of width 0. */
+static void filter_bank(void)
+{
+    frost_taps channel_1 = {{tap(100, 1), tap(-200, 0), tap(300, 0), tap(7, 1),
+                             tap(-1, 1), tap(-2, 1), tap(2047, 1), tap(1, 0)}};
+    frost_taps channel_2 = channel_1;
+    channel_2.taps[5] = tap(-3, 1);
+    frost_bank bank = {.channels = {[1] = channel_1, [2] = channel_2}};
+    frost_window window = {{sample(1000, 1), sample(500, 0), sample(-20, 0), sample(9, 1),
+                            sample(9, 1), sample(-1, 0), sample(32767, 1), sample(-2350, 0)}};
+    frost_round_bit blank = rb(0, 0, 2, 0);
+    HOLDS(round_bit(frost_bank_output(bank, window, 1), rb(32764, 0, 20, 2), FROST_DONE));
+    HOLDS(round_bit(frost_bank_output(bank, window, 2), rb(32764, 1, 20, 2), FROST_DONE));
+    HOLDS(round_bit(frost_bank_output(bank, window, 3), blank, FROST_REFUSED_WIDTH));
+    window.samples[7].unit = -4;
+    HOLDS(round_bit(frost_bank_output(bank, window, 2), blank, FROST_REFUSED_MISMATCH));
+    window.samples[7].width = 64;
+    HOLDS(round_bit(frost_bank_output(bank, window, 4), blank, FROST_REFUSED_CHANNEL));
+}
+
 /* P6's digit text, and document 01's file with its listing. Past what is written every buffer keeps its byte. */
 static void texts_and_files(void)
 {
@@ -148,6 +184,7 @@ int main(void)
     round_bit_words();
     half_unit_words();
     running_sums();
+    filter_bank();
     texts_and_files();
     limits();
     return failed;

@@ -14,6 +14,10 @@ static int32_t numbers[COUNT];
 static uint8_t rounds[COUNT], file[FILE_SIZE], text[300000];
 static const frost_round_bit word = {-1, 32, 0, 1};
 static const frost_running_sum sum = {{0, 32, 0, 0}, 30};
+#define TWICE(...) __VA_ARGS__, __VA_ARGS__
+#define EIGHT(...) {TWICE(TWICE(TWICE(__VA_ARGS__)))}
+static const frost_bank bank = {{[3] = {EIGHT({-1, 12, 0, 1})}}};
+static const frost_window window = {EIGHT({-1, 16, 0, 1})};
 
 /* Each answers what it was refused for. */
 static uint32_t write_file(void)
@@ -29,6 +33,7 @@ static uint32_t read_digits(void) { return frost_digit_text_read(text, word.widt
 static uint32_t multiply(void) { return frost_round_bit_product(word, word).refusal; }
 static uint32_t put(void) { return frost_running_sum_put(sum, word).refusal; }
 static uint32_t hand_out(void) { return frost_running_sum_hand_out(sum).refusal; }
+static uint32_t filter(void) { return frost_bank_output(bank, window, 3).refusal; }
 
 /* In this order: what is written is read behind it. */
 static struct call {
@@ -46,6 +51,7 @@ static struct call {
     {"frost_round_bit_product", multiply, 0, 0},
     {"frost_running_sum_put", put, 0, 0},
     {"frost_running_sum_hand_out", hand_out, 0, 0},
+    {"frost_bank_output", filter, 0, 0},
 };
 enum { CALLS = sizeof calls / sizeof *calls };
 
