@@ -6,6 +6,7 @@
 #ifdef INLINED
 #define PEER static inline
 #include "peer.c"
+#include "peer_bank.c"
 #include "peer_file.c"
 #else
 #include "calls.h"
@@ -58,6 +59,12 @@ static void each_sum(const struct work *w, struct answers *a)
     }
 }
 
+static void channel_output(const struct work *w, struct answers *a)
+{
+    for (int i = 0; i < w->words; i++)
+        a->words[i] = CALL(bank_output)(w->banks[i % BANKS], w->windows[i % WINDOWS], w->channels[i]);
+}
+
 static void read_file(const struct work *w, struct answers *a)
 {
     a->head = CALL(file_read)(w->file, w->length, a->numbers, w->numbers_room, a->rounds, w->rounds_room);
@@ -84,6 +91,7 @@ loop *const NAME[LOOPS] = {
     [CUT] = cut_by_depth,
     [PRODUCT] = product,
     [PUT_HAND_OUT] = put_hand_out,
+    [BANK] = channel_output,
     [READ] = read_file,
     [WRITE] = write_file,
     [LISTING] = write_listing,

@@ -58,6 +58,7 @@ static const struct row {
     {"cut", CUT, 1, 50},
     {"product", PRODUCT, 1, 50},
     {"put-hand-out", PUT_HAND_OUT, 1, 20},
+    {"bank", BANK, 1, 20},
     {"read", READ, 1, 100},
     {"write", WRITE, 1, 100},
     {"listing", LISTING, 1, 5},

@@ -1,4 +1,4 @@
-/* The numbers of document 01, each once: the C peer goes by them, and the work is made around them. */
+/* The numbers of the documents, each once: the C peer goes by them, and the work is made around them. */
 #ifndef RULES_H
 #define RULES_H
 
@@ -17,6 +17,7 @@ enum cause {
     BUFFER_TOO_SHORT = 10,
     MARK_OR_VERSION_WRONG = 11,
     LENGTH_KIND_OR_COUNT_WRONG = 12,
+    CHANNEL_OUTSIDE = 17,
 };
 
 enum { LEAST_WIDTH = 2, MOST_WIDTH = 63, MOST_UNIT = 127, LEAST_UNIT = -MOST_UNIT, BLANK_WIDTH = 2 };
@@ -48,5 +49,8 @@ static inline size_t file_size(size_t count)
 {
     return HEADER_SIZE + RECORD_SIZE * count;
 }
+
+/* The filter bank: as many samples as taps. */
+enum { CHANNELS = 4, TAPS = 8, TAP_WIDTH = 12, SAMPLE_WIDTH = 16, BANK_SUM_WIDTH = 31, BANK_DEPTH = 11 };
 
 #endif

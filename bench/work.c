@@ -29,12 +29,17 @@ static int64_t number(uint64_t *state, uint32_t digits)
     return signed_by_chance(state, (int64_t)(next(state) % end));
 }
 
+static frost_round_bit word(uint64_t *state, uint32_t digits, uint32_t width, int32_t unit)
+{
+    frost_round_bit w = {number(state, digits), width, unit, 0};
+    w.round = next(state) & 1;
+    return w;
+}
+
 /* The number is a digit shorter than its width allows, so that two of them add up in it. */
 static frost_round_bit good_word(uint64_t *state, uint32_t width, int32_t unit)
 {
-    frost_round_bit w = {number(state, width - 2), width, unit, 0};
-    w.round = next(state) & 1;
-    return w;
+    return word(state, width - 2, width, unit);
 }
 
 /* Every width from 0 and two past the most; every unit and some past either end. */
@@ -86,6 +91,30 @@ static void make_block(struct work *w, uint64_t *state, uint32_t records)
     w->length = file_size(records);
 }
 
+/* Taps of one channel, or samples of one window. */
+static void make_eight(frost_round_bit *words, uint64_t *state, uint32_t digits, uint32_t width, int32_t unit)
+{
+    for (int k = 0; k < TAPS; k++)
+        words[k] = word(state, digits, width, unit);
+}
+
+/* Units end at 50, so that those of products and outputs stay in their range. */
+static int32_t bank_unit(uint64_t *state)
+{
+    return (int32_t)below(state, 101) - 50;
+}
+
+static void make_banks(struct work *w, uint64_t *state)
+{
+    for (int i = 0; i < BANKS; i++)
+        for (int c = 0; c < CHANNELS; c++)
+            make_eight(w->banks[i].channels[c].taps, state, TAP_WIDTH - 1, TAP_WIDTH, bank_unit(state));
+    for (int i = 0; i < WINDOWS; i++)
+        make_eight(w->windows[i].samples, state, SAMPLE_WIDTH - 1, SAMPLE_WIDTH, bank_unit(state));
+    for (int i = 0; i < w->words; i++)
+        w->channels[i] = below(state, CHANNELS);
+}
+
 /* Widths end at 32 and units at 60, so that no product is refused. */
 void make_work(struct work *w, uint64_t seed, uint32_t records)
 {
@@ -103,6 +132,7 @@ void make_work(struct work *w, uint64_t seed, uint32_t records)
         w->samples[i] = good_word(&state, SUM_WIDTH, SUM_UNIT);
     }
     make_block(w, &state, records);
+    make_banks(w, &state);
     w->numbers_room = w->rounds_room = MOST_RECORDS;
     w->file_room = LONGEST_FILE;
     w->text_room = LONGEST_LISTING;
@@ -131,6 +161,37 @@ static void make_odd_block(struct work *w, uint64_t *state)
     w->little_text_room = below(state, 64);
 }
 
+/* Perhaps with no other numbers than 0 and -1, perhaps all alike: the cut of a sum near 0 shows its round bits, that of
+ * others hardly ever. Perhaps all of another width, some odd ones among them, one that is only of another unit. */
+static void make_odd_eight(frost_round_bit *words, uint64_t *state, uint32_t width)
+{
+    int32_t unit = odd_unit(state);
+    if (below(state, 8) == 0)
+        width = LEAST_WIDTH + below(state, MOST_WIDTH - LEAST_WIDTH + 1);
+    make_eight(words, state, below(state, 2) == 0 ? 0 : width - 1, width, unit);
+    if (below(state, 2) == 0)
+        for (int k = 1; k < TAPS; k++)
+            words[k] = words[0];
+    while (below(state, 2) == 0) {
+        frost_round_bit odd = odd_word(state, width, unit);
+        words[below(state, TAPS)] = odd;
+    }
+    if (below(state, 8) == 0) {
+        int32_t other = odd_unit(state);
+        words[below(state, TAPS)].unit = other;
+    }
+}
+
+static void make_odd_banks(struct work *w, uint64_t *state)
+{
+    for (int i = 0; i < w->words; i++) {
+        for (int c = 0; c < CHANNELS; c++)
+            make_odd_eight(w->banks[i].channels[c].taps, state, TAP_WIDTH);
+        make_odd_eight(w->windows[i].samples, state, SAMPLE_WIDTH);
+        w->channels[i] = below(state, 16) == 0 ? (uint32_t)next(state) : below(state, 16) % (CHANNELS + 1);
+    }
+}
+
 void make_odd_work(struct work *w, uint64_t seed)
 {
     w->words = 16;
@@ -144,4 +205,5 @@ void make_odd_work(struct work *w, uint64_t seed)
         w->samples[i] = odd_word(&seed, w->sum_width, w->sum_unit);
     }
     make_odd_block(w, &seed);
+    make_odd_banks(w, &seed);
 }

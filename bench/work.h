@@ -12,6 +12,9 @@ enum {
     SUM_WIDTH = 32,
     SUM_UNIT = -16,
     SUM_DEPTH = 16,
+    /* No bank comes round to the same window in as many outputs as there are words. */
+    BANKS = 64,
+    WINDOWS = 1000,
 };
 
 /* Formats, depths and rooms stand here and not as constants in the loops: a check that the compiler can decide is not
@@ -24,6 +27,9 @@ struct work {
     int32_t sum_unit;
     uint64_t sum_depth;
     frost_round_bit samples[MOST_WORDS];
+    frost_bank banks[BANKS];
+    frost_window windows[WINDOWS];
+    uint32_t channels[MOST_WORDS];
     uint32_t kind, width;
     int32_t unit;
     size_t numbers_count, rounds_count;
@@ -47,7 +53,7 @@ struct answers {
 };
 
 /* The last is only checked, on odd work. */
-enum { SUM, CUT, PRODUCT, PUT_HAND_OUT, READ, WRITE, LISTING, LISTING_IN_LITTLE_ROOM, EACH_SUM, LOOPS };
+enum { SUM, CUT, PRODUCT, PUT_HAND_OUT, BANK, READ, WRITE, LISTING, LISTING_IN_LITTLE_ROOM, EACH_SUM, LOOPS };
 
 typedef void loop(const struct work *w, struct answers *a);
 
