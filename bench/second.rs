@@ -9,7 +9,7 @@ mod model;
 use library::*;
 use model::block_file::Block;
 use model::layout::VERSION_1;
-use model::{block_file, listing, round_bit, running_sum};
+use model::{bank, block_file, listing, round_bit, running_sum};
 use std::slice::{from_raw_parts, from_raw_parts_mut};
 
 #[no_mangle]
@@ -47,6 +47,15 @@ pub extern "C" fn second_running_sum_put(s: FrostRunningSum, w: FrostRoundBit) -
 #[no_mangle]
 pub extern "C" fn second_running_sum_hand_out(s: FrostRunningSum) -> FrostSumAnswer {
     OfModel::of(running_sum::hand_out(s.model()))
+}
+
+#[no_mangle]
+pub extern "C" fn second_bank_output(
+    bank: FrostBank,
+    window: FrostWindow,
+    channel: u32,
+) -> FrostRoundBitAnswer {
+    OfModel::of(bank::output(bank.model(), window.model(), channel as i128))
 }
 
 /// # Safety
