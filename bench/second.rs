@@ -1,6 +1,8 @@
 //! The second program, second/src/model/, behind the library's calls: the same structs in, the same structs out.
 #![allow(dead_code)]
 
+#[path = "../second/src/compare/functions.rs"]
+mod functions;
 #[path = "../second/src/compare/library.rs"]
 mod library;
 #[path = "../second/src/model/mod.rs"]
@@ -55,7 +57,7 @@ pub extern "C" fn second_bank_output(
     window: FrostWindow,
     channel: u32,
 ) -> FrostRoundBitAnswer {
-    OfModel::of(bank::output(bank.model(), window.model(), channel as i128))
+    OfModel::of(bank::output(&bank.model(), &window.model(), channel as i128))
 }
 
 /// # Safety

@@ -1,3 +1,4 @@
 mod Unique
+pub mod Mapped
 pub mod Chains
 pub mod Demand3

@@ -1,6 +1,7 @@
 -- The C boundary: how a flat word is read, and how an answer is laid flat. An outcome is its number
 -- in document 01's table, 0 for done.
-use Rattle.integers.specs.Names.{ℕ}
+use mathlib.Core.List.{map}
+use Rattle.integers.specs.Names.{ℕ, List}
 use Rattle.words.specs.declared.Outcome.{Outcome}
 use Rattle.words.specs.declared.PlainWord.{PlainWord}
 use Rattle.words.specs.declared.RoundBitWord.{RoundBitWord}
@@ -21,12 +22,15 @@ use Rattle.frostuldi.specs.declared.FrostHalfUnitAnswer.{FrostHalfUnitAn
 use Rattle.frostuldi.specs.declared.FrostRoundBitAnswer.{FrostRoundBitAnswer}
 use Rattle.frostuldi.specs.declared.FrostRunningSum.{FrostRunningSum}
 use Rattle.frostuldi.specs.declared.FrostSumAnswer.{FrostSumAnswer}
+use Rattle.frostuldi.specs.declared.FrostTaps.{FrostTaps}
+use Rattle.frostuldi.specs.declared.FrostBank.{FrostBank}
+use Rattle.frostuldi.specs.declared.FrostWindow.{FrostWindow}
 use Rattle.frostuldi.specs.declared.FrostFileHead.{FrostFileHead}
 use Rattle.frostuldi.specs.declared.FrostWritten.{FrostWritten}
 
 -- which library this is: 10000 * major + 100 * minor + patch
 abbrev pub version : ℕ
-version = 10000
+version = 10100
 
 -- what comes in
 abbrev pub plainIn : FrostPlain → PlainWord
@@ -40,6 +44,16 @@ roundBitIn w = roundBitWord (w .number) (w .round) (format (w .width) (w .unit))
 
 abbrev pub sumIn : FrostRunningSum → RunningSum
 sumIn s = record { kept = roundBitIn (s .kept); depth = s .depth }
+
+-- a row, a bank and a window are lists of their words
+abbrev pub tapsIn : FrostTaps → List RoundBitWord
+tapsIn t = map roundBitIn (t .taps)
+
+abbrev pub bankIn : FrostBank → List (List RoundBitWord)
+bankIn b = map tapsIn (b .channels)
+
+abbrev pub windowIn : FrostWindow → List RoundBitWord
+windowIn w = map roundBitIn (w .samples)
 
 -- what goes out
 abbrev pub flatPlain : PlainWord → FrostPlain

@@ -7,6 +7,8 @@
 //
 // The definitions are in specs/Boundary.antt: how a flat word is read and how an answer is laid flat.
 ghost use mathlib.Core.Path.{_≡_};
+ghost use mathlib.Core.List.{map};
+ghost use Prim.Native.Nat.{_<_};
 ghost use lib.ListN.{length};
 ghost use Rattle.words.specs.Formats.{format};
 ghost use Rattle.round_bit.specs.Cuts.{signChangeOf, cutOf, restOf, evenCutOf, widenOf};
@@ -14,6 +16,7 @@ ghost use Rattle.round_bit.specs.Arithmetic.{sumOf, differenceOf, productOf, to
 ghost use Rattle.half_unit.specs.Cuts.{signChangeOf as halfSignChangeOf, cutOf as halfCutOf};
 ghost use Rattle.half_unit.specs.Conversions.{fromPlainUpOf, fromPlainEvenOf, toPlainOf as halfToPlainOf, toRoundBitOf, fromRoundBitOf};
 ghost use Rattle.half_unit.specs.Arithmetic.{sumUpOf, sumEvenOf, productOf as halfProductOf};
+ghost use Rattle.filter_bank.specs.Bank.{row, outputOf};
 ghost use Rattle.running_sum.specs.Steps.{blank, openOf, put, handOut, empty, stepOf};
 ghost use Rattle.digit_text.specs.Digits.{writeOf as textWriteOf, bufferOf};
 ghost use Rattle.digit_text.specs.Reading.{readOf as textReadOf};
@@ -21,7 +24,7 @@ ghost use Rattle.block_file.specs.Layout.{block};
 ghost use Rattle.block_file.specs.Reading.{readOf as fileReadOf, numbersAfter, roundsAfter};
 ghost use Rattle.block_file.specs.Writing.{writeOf as fileWriteOf, fileAfter};
 ghost use Rattle.listing_text.specs.Listing.{listOf, textAfter};
-ghost use Rattle.frostuldi.specs.Boundary.{version, plainIn, halfUnitIn, roundBitIn, sumIn, flatPlain, flatHalfUnit, flatRoundBit, plainOut, halfUnitOut, roundBitOut, sumOut, headOut, writtenOut};
+ghost use Rattle.frostuldi.specs.Boundary.{version, plainIn, halfUnitIn, roundBitIn, sumIn, tapsIn, windowIn, bankIn, flatPlain, flatHalfUnit, flatRoundBit, plainOut, halfUnitOut, roundBitOut, sumOut, headOut, writtenOut};
 use block_file::ReadAnswer;
 use running_sum::RunningSum;
 use words::Format;
@@ -91,6 +94,22 @@ pub struct FrostSumAnswer {
     pub refusal: u32,
 }
 
+// Eight words, one behind the other: a struct of rows has the bytes of an array of arrays.
+#[repr(C)]
+pub struct FrostTaps {
+    pub taps: [FrostRoundBit; 8],
+}
+
+#[repr(C)]
+pub struct FrostBank {
+    pub channels: [FrostTaps; 4],
+}
+
+#[repr(C)]
+pub struct FrostWindow {
+    pub samples: [FrostRoundBit; 8],
+}
+
 #[repr(C)]
 pub struct FrostFileHead {
     pub refusal: u32,
@@ -158,6 +177,49 @@ fn sum_in(s: FrostRunningSum) -> RunningSum
         kept: kept,
         depth: depth,
     }
+}
+
+fn eight_in(w: [FrostRoundBit; 8]) -> [RoundBitWord; 8]
+    ensures { λ r. ⌜ r ≡ map roundBitIn w ⌝ }
+{
+    [
+        round_bit_in(w[0]),
+        round_bit_in(w[1]),
+        round_bit_in(w[2]),
+        round_bit_in(w[3]),
+        round_bit_in(w[4]),
+        round_bit_in(w[5]),
+        round_bit_in(w[6]),
+        round_bit_in(w[7]),
+    ]
+}
+
+fn taps_in(t: FrostTaps) -> [RoundBitWord; 8]
+    ensures { λ r. ⌜ r ≡ tapsIn t ⌝ }
+{
+    let w = t.taps;
+    eight_in(w)
+}
+
+// The taps of a channel, one of four. Each is read at its own place: at a place that is found the whole bank would be
+// copied first.
+fn row_in(bank: FrostBank, channel: u32) -> [RoundBitWord; 8]
+    requires { ⌜ channel < 4 ⌝ }
+    ensures { λ r. ⌜ r ≡ row (bankIn bank) channel ⌝ }
+{
+    match channel {
+        0 => taps_in(bank.channels[0]),
+        1 => taps_in(bank.channels[1]),
+        2 => taps_in(bank.channels[2]),
+        _ => taps_in(bank.channels[3]),
+    }
+}
+
+fn window_in(t: FrostWindow) -> [RoundBitWord; 8]
+    ensures { λ r. ⌜ r ≡ windowIn t ⌝ }
+{
+    let w = t.samples;
+    eight_in(w)
 }
 
 // What goes out.
@@ -440,6 +502,23 @@ pub extern "C" fn frost_half_unit_product(x: FrostHalfUnit, y: FrostHalfUnit) ->
     half_unit_answer(half_unit::product(half_unit_in(x), half_unit_in(y)))
 }
 
+// The filter bank. Only the channel's own row is read; of a channel that the bank has not, which is refused, any row.
+
+#[no_mangle]
+pub extern "C" fn frost_bank_output(
+    bank: FrostBank,
+    window: FrostWindow,
+    channel: u32,
+) -> FrostRoundBitAnswer
+    ensures { λ r. ⌜ r ≡ roundBitOut ((outputOf (bankIn bank) (windowIn window) channel) .outcome) ((outputOf (bankIn bank) (windowIn window) channel) .word) ⌝ }
+{
+    let taps = row_in(bank, channel % filter_bank::CHANNELS);
+    let samples = window_in(window);
+    let a = filter_bank::channel_output(taps, samples, channel);
+    let o = a.outcome;
+    round_bit_out(o, a.word)
+}
+
 // The running sum.
 
 #[no_mangle]
@@ -486,7 +565,7 @@ pub extern "C" fn frost_running_sum_empty(s: FrostRunningSum) -> FrostSumAnswer
 pub extern "C" fn frost_version() -> u32
     ensures { λ r. ⌜ r ≡ version ⌝ }
 {
-    10000
+    10100
 }
 
 // Digit texts, block files and listings.

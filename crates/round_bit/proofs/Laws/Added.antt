@@ -1,12 +1,13 @@
 -- The sum of two numbers and their round bits, apart from any word. Assumes nothing.
--- Proved here: `added-value`, `added-bit`, `added-comm`, `added-counts`, `added-signs`, `added-self`.
-use Prim.Native.Nat.{ℕ, _+_, _-_, _≤_, min}
+-- Proved here: `added-value`, `added-bit`, `added-size`, `added-comm`, `added-counts`, `added-signs`, `added-self`.
+use Prim.Native.Nat.{ℕ, _+_, _-_, _≤_, _<_, min}
 use native.Mathlib.Omega.{arith}
 use mathlib.Core.Path.{_≡_}
 use lib.Bits.{bitAnd, bitOr, or-lt, or-add-and, and-le-l, and-le-r, and-comm, or-comm}
 use lib.IntN.{ℤ, pos, negsuc, _+ℤ_, +ℤ-comm, negℤ-+ℤ}
+use lib.Signed.{mag}
 use Rattle.integers.specs.Numbers.{turned}
-use Rattle.integers.proofs.Kit.{ints, plus-law}
+use Rattle.integers.proofs.Kit.{ints, plus-law, size-range, by-size}
 use Rattle.integers.proofs.Floor.{turned-law}
 use Rattle.words.specs.declared.RoundBit.{RoundBit}
 use Rattle.round_bit.specs.Cuts.{signChanged}
@@ -30,6 +31,14 @@ added-value m n =
 
 pub added-bit : (m n : RoundBit) → m .1 ≤ 1 → n .1 ≤ 1 → added m n .1 ≤ 1
 added-bit m n h k = omega (arith, or-lt 1 (m .1) (n .1) (omega arith) (omega arith))
+
+-- numbers of less than i and j, with their carry, are less than i + j
+pub added-size : (m n : RoundBit) (i j : ℕ) → mag (m .0) < i → mag (n .0) < j → m .1 ≤ 1 → mag (added m n .0) < i + j
+added-size m n i j h k b =
+    let both = bitAnd (m .1) (n .1) in
+    let one = and-le-l (m .1) (n .1) in
+    let sum = plus-law (m .0 +ℤ n .0) (pos both) in
+    by-size (i + j) (added m n .0) (omega (ints, one, sum, plus-law (m .0) (n .0), size-range i (m .0) h, size-range j (n .0) k))
 
 pub added-comm : (m n : RoundBit) → added m n ≡ added n m
 added-comm m n = rw (+ℤ-comm (m .0) (n .0), and-comm (m .1) (n .1), or-comm (m .1) (n .1))

@@ -1,5 +1,5 @@
 -- The product: its fit, its value, its operands turned round and sign-changed. Assumes nothing.
--- Proved here: `product-closed`, `product-value`, `product-comm`, `product-sign-first`, `product-sign-second`, `product-sign-both`.
+-- Proved here: `product-is-word`, `product-word-right`, `product-closed`, `product-value`, `product-comm`, `product-sign-first`, `product-sign-second`, `product-sign-both`.
 use Prim.Native.Nat.{_+_, _-_}
 use native.Mathlib.Omega.{arith}
 use mathlib.Core.Path.{_≡_}
@@ -22,10 +22,10 @@ use Rattle.round_bit.proofs.Laws.Multiplied.{multiplied-bit, multiplied
 use Rattle.round_bit.proofs.Laws.Multiplied.{multiplied-comm, multiplied-sign-first, multiplied-sign-second}
 
 -- ---- what the check of a product tells, and what it asks
-record Factors (x y : RoundBitWord) : Type 0 where
-  first : Right (x .format) (x .number .0) (x .number .1)
-  second : Right (y .format) (y .number .0) (y .number .1)
-  format : RightFormat (productFormat (x .format) (y .format))
+pub record Factors (x y : RoundBitWord) : Type 0 where
+  pub first : Right (x .format) (x .number .0) (x .number .1)
+  pub second : Right (y .format) (y .number .0) (y .number .1)
+  pub format : RightFormat (productFormat (x .format) (y .format))
 
 product-tells : (x y : RoundBitWord) → productOf x y .outcome ≡ Done → Factors x y
 unfolding roundBitCheck
@@ -35,11 +35,11 @@ product-tells x y e =
     let p = both-right (x .format) (x .number .0) (x .number .1) (y .format) (y .number .0) (y .number .1) (answerCheck f) c in
     record { first = p .0; second = p .1; format = answer-right f (omega (arith, p .0 .format .narrow, p .1 .format .narrow)) (p .2) }
 
-product-is-word : (x y : RoundBitWord) → Factors x y → productOf x y ≡ roundBitDone (productWord x y)
+pub product-is-word : (x y : RoundBitWord) → Factors x y → productOf x y ≡ roundBitDone (productWord x y)
 unfolding roundBitCheck
 product-is-word x y g = rw (right-both (g .first) (g .second) (answer-done (productFormat (x .format) (y .format)) (g .format)))
 
-product-word-right : (x y : RoundBitWord) → Factors x y → roundBitCheck (productWord x y) ≡ Done
+pub product-word-right : (x y : RoundBitWord) → Factors x y → roundBitCheck (productWord x y) ≡ Done
 unfolding productWord roundBitCheck
 product-word-right x y g =
     let i = x .format .width - 1 in

@@ -1,5 +1,5 @@
 -- Sum and difference: what they do to values, and to each other. Assumes nothing.
--- Proved here: `sum-format`, `sum-done`, `sum-closed`, `difference-closed`, `sum-value`, `sum-comm`, `sum-zero`, `zero-sum`, `sum-grouped`,
+-- Proved here: `sum-format`, `sum-done`, `sum-fits`, `sum-closed`, `difference-closed`, `sum-value`, `sum-comm`, `sum-zero`, `zero-sum`, `sum-grouped`,
 -- `sum-sign-value`, `sum-sign-digits`, `difference-value`, `difference-self`.
 use Prim.Native.Nat.{ℕ, _+_, _-_, _^_, _≤_, _<_, min}
 use native.Mathlib.Omega.{arith}
@@ -17,7 +17,7 @@ use Rattle.words.specs.declared.Format.{Format}
 use Rattle.words.specs.declared.Outcome.the-variants.{Done}
 use Rattle.words.specs.declared.RoundBit.{RoundBit}
 use Rattle.words.specs.declared.RoundBitWord.{RoundBitWord}
-use Rattle.words.proofs.Laws.{Right, right, word-right}
+use Rattle.words.proofs.Laws.{Right, right, word-right, RightRoundBit}
 use Rattle.words.proofs.Rights.{nothing-right}
 use Rattle.words.proofs.Operands.{operands-right, right-operands, fit-passes, done-fits}
 use Rattle.round_bit.specs.Cuts.{signChangeWord}
@@ -79,6 +79,11 @@ sum-format x y = refl
 
 pub sum-done : (x y : RoundBitWord) → sumOf x y .outcome ≡ Done → sumOf x y ≡ roundBitDone (sumWord x y)
 sum-done x y e = answer-is-word x y y e
+
+pub sum-fits : (x y : RoundBitWord) → RightRoundBit x → RightRoundBit y → x .format ≡ y .format → mag (sumWord x y .number .0) < 2 ^ (x .format .width - 1) →
+    sumOf x y ≡ roundBitDone (sumWord x y)
+sum-fits x y f g e h =
+    rw (sum-check-asks x y (record { first = f; second = g; same = e })) (word-fits (sumWord x y) (rw (sum-format x y) h))
 
 -- ---- closed: the word of a done answer passes its own check
 pub sum-closed : (x y : RoundBitWord) → sumOf x y .outcome ≡ Done → roundBitCheck (sumOf x y .word) ≡ Done

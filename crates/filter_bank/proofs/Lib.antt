@@ -1,0 +1,6 @@
+pub mod Rows
+pub mod Along
+pub mod Times
+pub mod Summing
+pub mod Laws
+pub mod Checked

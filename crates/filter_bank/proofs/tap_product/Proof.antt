@@ -1,0 +1,47 @@
+use mathlib.Core.Path.{_≡_, _∙_}
+use native.Mathlib.Omega.{arith}
+use lib.IntN.{pos, _+ℤ_}
+use mir.Syntax.{w64}
+use mir.Val.{toZ, ofZ}
+use mir.Facts.{toZ-ofZ}
+use Rattle.filter_bank.proofs.Times.{value-room, number-room, product-made}
+use borrow.Author.Needs.{needs}
+use Rattle.filter_bank.proofs.tap_product.Statement.{statement}
+use Rattle.filter_bank.proofs.tap_product.Tie as tie
+
+module _ (c : tie.After-worth2) where
+  abbrev s : tie.Start
+  s = c .before .before .before
+
+  first : toZ w64 (ofZ w64 (c .before .worth .result)) ≡ s .args .t .0 +ℤ pos (s .args .t .1)
+  first = let u = c .before .worth in toZ-ofZ (record { sfits = u .ok }) ∙ u .ensures
+
+  second : toZ w64 (ofZ w64 (c .worth2 .result)) ≡ s .args .s .0 +ℤ pos (s .args .s .1)
+  second = let u = c .worth2 in toZ-ofZ (record { sfits = u .ok }) ∙ u .ensures
+
+mul-t6 : tie.Need-mul-t6
+mul-t6 c =
+    let p = s c .pre in
+    value-room (s c .args .t) (s c .args .s) (p .0) (p .1) (p .2) (p .3) _ _ _ (first c) (second c) (c .before .before .product-bit .ensures)
+
+sub-t8 : tie.Need-sub-t8
+sub-t8 c =
+    let p = s c .pre in
+    number-room (s c .args .t) (s c .args .s) (p .0) (p .1) (p .2) (p .3) _ _ _ (first c) (second c) (c .before .before .product-bit .ensures)
+
+returns : tie.Need-returns
+returns c =
+    let p = s c .pre in
+    product-made (s c .args .t) (s c .args .s) (p .0) (p .1) (p .2) (p .3) _ _ _ (first c) (second c) (c .before .before .product-bit .ensures)
+
+pub tap-product-spec : {M : Type 1} → statement M
+tap-product-spec =
+    tie.close
+    (tie.spec
+    (λ c κs. (c .pre .1, c .pre .3))
+    (λ c κs. let p = c .before .pre in (omega (arith, p .0), p .1))
+    (λ c κs. let p = c .before .before .pre in (p .2, p .3))
+    mul-t6
+    (λ c. search needs)
+    sub-t8
+    returns)
