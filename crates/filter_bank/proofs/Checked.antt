@@ -1,9 +1,8 @@
 -- The check of a channel as the code goes through it: 17, the row and the products' unit first, and the output's unit with the cut.
 -- Assumes nothing.
 -- Proved here: `taps-alone`, `row-passed`, `channel-refused`, `channel-cut`.
-use Prim.Native.Nat.{ℕ, _*_, _^_, _≤_}
-use native.Mathlib.Omega.{arith}
-use mathlib.Core.Path.{_≡_, refl, sym, ap, _∙_}
+use Prim.Native.Nat.{ℕ, _≤_}
+use mathlib.Core.Path.{_≡_, refl, sym, ap}
 use mathlib.Core.Bool.{Bool, true, false, _||_}
 use mathlib.Core.List.{List}
 use lib.Dec.{ltb}
@@ -12,23 +11,18 @@ use lib.ListN.{length}
 use borrow.Author.Tests.{ltb-false}
 use Rattle.words.specs.Words.{badUnit}
 use Rattle.words.specs.Refusals.{refuse, _orElse_}
-use Rattle.words.specs.Formats.{format, narrowerCheck, answerCheck}
-use Rattle.words.specs.RoundBit.{roundBitRefused, roundBitCheck}
+use Rattle.words.specs.Formats.{narrowerCheck}
+use Rattle.words.specs.RoundBit.{roundBitRefused}
 use Rattle.words.specs.declared.Cause.{Cause}
 use Rattle.words.specs.declared.Cause.the-variants.{UnitPast}
 use Rattle.words.specs.declared.Outcome.{Outcome}
 use Rattle.words.specs.declared.Outcome.the-variants.{Done, Refused}
 use Rattle.words.specs.declared.RoundBitWord.{RoundBitWord}
 use Rattle.words.proofs.Laws.{refused-not-done, passed, three-passed, round-bit-passes}
-use Rattle.words.proofs.Formats.{answer-right}
 use Rattle.round_bit.specs.Cuts.{cutCheck, cutOf}
-use Rattle.round_bit.specs.Arithmetic.{productFormat}
-use Rattle.filter_bank.specs.Bank.{mostChannel, sumWidth, cutDepth, products, total, outputWord, productsUnit, rowCheck, channelCheck}
+use Rattle.filter_bank.specs.Bank.{mostChannel, cutDepth, products, total, outputWord, productsUnit, rowCheck}
 use Rattle.filter_bank.specs.Bank.{outputAnswer, channelOutputOf}
-use Rattle.filter_bank.proofs.Rows.{row-tells}
-use Rattle.filter_bank.proofs.Laws.Passed.{tapFormat, sampleFormat, sumFormat}
-use Rattle.filter_bank.proofs.Laws.Room.{Within, room, first-with-others}
-use Rattle.filter_bank.proofs.Laws.Summands.{products-count, all-multiplied}
+use Rattle.filter_bank.proofs.Laws.Passed.{row-passes, sum-good}
 
 -- a third check that has one more cause refuses what it refused, for the same
 more-causes : (o p : Outcome) (a b : Bool) (c : Cause) → (o orElse p orElse refuse 7 a) ≡ Refused c → (o orElse p orElse refuse 7 (a || b)) ≡ Refused c
@@ -66,20 +60,11 @@ module _ (taps window : List RoundBitWord) (channel : ℕ) where
     unit-good : badUnit (productsUnit taps window) ≡ false
     unit-good = passed UnitPast _ (three-passed (refuse 17 (ltb mostChannel channel)) (rowCheck taps window) _ e .2)
 
-    sum-within : Within (sumFormat taps window) (length ps * 2 ^ 26) (total ps)
-    unfolding answerCheck
-    sum-within =
-        let good = row-tells taps window (row-passed e) in
-        let f = tapFormat taps in
-        let g = sampleFormat window in
-        let right = answer-right (productFormat f g) (omega arith) (rw unit-good) in
-        let m = all-multiplied f g right (omega arith) taps window (good .0) (good .1) in
-        let eight : length ps ≡ 8 = products-count taps window (k ∙ sym h) ∙ h in
-        rw (← first-with-others ps) (room (sumFormat taps window) 26 4 ps refl (m .within) (omega (arith, eight)) (omega (arith, eight)) .within)
-
     cut-check : cutCheck (total ps) cutDepth ≡ refuse 7 (badUnit (productsUnit taps window +ℤ pos cutDepth))
     unfolding narrowerCheck
-    cut-check = let w = sum-within .good in rw (round-bit-passes (total ps) (w .right), w .same)
+    cut-check =
+        let w = sum-good taps window (row-passes taps window (row-passed e) unit-good) h k in
+        rw (round-bit-passes (total ps) (w .right), w .same)
 
     pub channel-cut : outputAnswer (cutOf (total ps) cutDepth .outcome) (cutOf (total ps) cutDepth .word) ≡ channelOutputOf taps window channel
     unfolding outputWord

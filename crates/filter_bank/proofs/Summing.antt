@@ -1,5 +1,5 @@
 -- The loop that adds the products of a row: what it has when it starts, what a turn does, and what it has at the end. Assumes nothing.
--- Proved here: `size`, `bit`, `left`, `tap-small`, `sample-small`, `times-small`, `first-kept`, `next-kept`, `all-kept`, `total-format`.
+-- Proved here: `size`, `bit`, `left`, `tap-small`, `sample-small`, `times-small`, `first-kept`, `next-kept`, `all-kept`, `added-format`, `total-format`.
 use Prim.Native.Nat.{ℕ, _+_, _*_, _^_, _≤_, _<_}
 use native.Mathlib.Omega.{arith}
 use mathlib.Core.Path.{_≡_, refl}
@@ -71,7 +71,7 @@ module _ (ts ss : List RoundBitWord) where
     all-kept i sum h k = rw (k .left, row-end ts i 8 e h)
 
 -- the sum has the format of its first word, whatever comes to it
-added-format : (w : RoundBitWord) (ps : List RoundBitWord) → addedTo w ps .format ≡ w .format
+pub added-format : (w : RoundBitWord) (ps : List RoundBitWord) → addedTo w ps .format ≡ w .format
 unfolding addedTo sumWord
 added-format w [] = refl
 added-format w (p ∷ more) = added-format (sumWord w p) more

@@ -1,5 +1,6 @@
--- Document 02, Ask 1, "Eight-tap boards": one channel's output. A bank is a list of rows of taps,
--- a window a list of samples; the code's have four, eight and eight places.
+-- Document 02, Ask 1, "Eight-tap boards": one channel's output. A bank is a list of rows of taps, a
+-- window a list of samples. The code's types give a bank four rows, a row eight taps and a window
+-- eight samples; of lists of other lengths nothing here is meant.
 use Rattle.integers.specs.Names.{ℕ, Bool, false, _||_, List, [], _∷_, ltb, getD, ℤ, pos, _+ℤ_}
 use Rattle.words.specs.declared.Outcome.{Outcome}
 use Rattle.words.specs.declared.Outcome.the-variants.{Done}
@@ -13,7 +14,7 @@ use Rattle.round_bit.specs.Cuts.{cutWord}
 use Rattle.round_bit.specs.Arithmetic.{sumWord, productWord}
 use Rattle.filter_bank.specs.declared.OutputAnswer.{OutputAnswer}
 
--- "four rows": the channels 0 to 3
+-- "four rows": no "channel over 3"
 abbrev pub mostChannel : ℕ
 mostChannel = 3
 
@@ -33,8 +34,8 @@ abbrev pub cutDepth : ℕ
 cutDepth = 11
 
 -- the taps of a channel
-abbrev pub row : List (List RoundBitWord) → ℕ → List RoundBitWord
-row bank channel = getD bank channel []
+abbrev pub rowOf : List (List RoundBitWord) → ℕ → List RoundBitWord
+rowOf bank channel = getD bank channel []
 
 -- "with the numbers extended on the left": the same number and round bit in the wider format
 abbrev pub extended : RoundBitWord → RoundBitWord
@@ -51,12 +52,13 @@ unfoldable pub addedTo : RoundBitWord → List RoundBitWord → RoundBitWord
 addedTo w [] = w
 addedTo w (p ∷ more) = addedTo (sumWord w p) more
 
--- the first of them with the others; of none it is nothing
+-- to the first of them the others; the sum of none is (0,0)
 abbrev pub total : List RoundBitWord → RoundBitWord
 total [] = roundBitWord (pos 0) 0 (format sumWidth (pos 0))
 total (p ∷ more) = addedTo p more
 
--- "one channel's output": the cut is the round-bit cut, "to width 20"
+-- "one channel's output": the round-bit cut of the sum, "to width 20". That no sum leaves width 31,
+-- and the output none of its own, is shown: specs/Claims.antt
 unfoldable pub outputWord : List RoundBitWord → List RoundBitWord → RoundBitWord
 outputWord taps window = cutWord (total (products taps window)) cutDepth
 
@@ -112,4 +114,4 @@ channelOutputOf taps window channel =
 
 -- "The other channels' taps are not looked at."
 abbrev pub outputOf : List (List RoundBitWord) → List RoundBitWord → ℕ → OutputAnswer
-outputOf bank window channel = channelOutputOf (row bank channel) window channel
+outputOf bank window channel = channelOutputOf (rowOf bank channel) window channel

@@ -16,7 +16,7 @@ ghost use Rattle.round_bit.specs.Arithmetic.{sumOf, differenceOf, productOf, to
 ghost use Rattle.half_unit.specs.Cuts.{signChangeOf as halfSignChangeOf, cutOf as halfCutOf};
 ghost use Rattle.half_unit.specs.Conversions.{fromPlainUpOf, fromPlainEvenOf, toPlainOf as halfToPlainOf, toRoundBitOf, fromRoundBitOf};
 ghost use Rattle.half_unit.specs.Arithmetic.{sumUpOf, sumEvenOf, productOf as halfProductOf};
-ghost use Rattle.filter_bank.specs.Bank.{row, outputOf};
+ghost use Rattle.filter_bank.specs.Bank.{rowOf, outputOf};
 ghost use Rattle.running_sum.specs.Steps.{blank, openOf, put, handOut, empty, stepOf};
 ghost use Rattle.digit_text.specs.Digits.{writeOf as textWriteOf, bufferOf};
 ghost use Rattle.digit_text.specs.Reading.{readOf as textReadOf};
@@ -205,7 +205,7 @@ fn taps_in(t: FrostTaps) -> [RoundBitWord; 8]
 // copied first.
 fn row_in(bank: FrostBank, channel: u32) -> [RoundBitWord; 8]
     requires { ⌜ channel < 4 ⌝ }
-    ensures { λ r. ⌜ r ≡ row (bankIn bank) channel ⌝ }
+    ensures { λ r. ⌜ r ≡ rowOf (bankIn bank) channel ⌝ }
 {
     match channel {
         0 => taps_in(bank.channels[0]),

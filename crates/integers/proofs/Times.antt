@@ -1,9 +1,9 @@
 -- Laws of the product that the library of ℤ lacks. Assumes nothing.
--- Proved here: `plus-times`, `times-assoc`, `times-plus`, `neg-times`, `times-neg`.
+-- Proved here: `plus-times`, `times-assoc`, `times-plus`, `neg-times`, `times-neg`, `near-twice`.
 use mathlib.Core.Path.{_≡_, ap}
-use Prim.Native.Nat.{ℕ, _*_}
-use lib.IntN.{ℤ, negℤ, _+ℤ_, _*ℤ_, *ℤ-comm}
-use Rattle.integers.proofs.Kit.{up, down, ints, plus-law, neg-law, times-law}
+use Prim.Native.Nat.{ℕ, _*_, _≤_}
+use lib.IntN.{ℤ, pos, negℤ, natAbs, _+ℤ_, _-ℤ_, _*ℤ_, *ℤ-comm}
+use Rattle.integers.proofs.Kit.{up, down, ints, plus-law, neg-law, minus-law, times-law, abs-range, by-abs}
 
 pub plus-times : (a b c : ℤ) → (a +ℤ b) *ℤ c ≡ (a *ℤ c) +ℤ (b *ℤ c)
 plus-times a b c =
@@ -42,3 +42,18 @@ neg-times a b = omega (ints, rw (neg-law a .0, neg-law a .1) at (times-law (neg�
 
 pub times-neg : (a b : ℤ) → a *ℤ negℤ b ≡ negℤ (a *ℤ b)
 times-neg a b = rw (*ℤ-comm a (negℤ b), neg-times b a, *ℤ-comm b a)
+
+-- x times q is near v, so x times twice q is near twice v
+pub near-twice : (x v e : ℤ) (q : ℕ) → pos 2 *ℤ v ≡ e → natAbs ((x *ℤ pos q) -ℤ v) ≤ q → natAbs ((x *ℤ pos (2 * q)) -ℤ e) ≤ 2 * q
+near-twice x v e q p h =
+    by-abs (2 * q) ((x *ℤ pos (2 * q)) -ℤ e)
+    (omega (
+      ints,
+      p,
+      minus-law (x *ℤ pos q) v,
+      minus-law (x *ℤ pos (2 * q)) e,
+      times-law x (pos q),
+      times-law x (pos (2 * q)),
+      times-law (pos 2) v,
+      abs-range q ((x *ℤ pos q) -ℤ v) h,
+    ))

@@ -5,6 +5,7 @@ pub mod EvenCuts
 pub mod Widenings
 pub mod Added
 pub mod Sums
+pub mod SumWords
 pub mod Conversions
 pub mod Multiplied
 pub mod Products

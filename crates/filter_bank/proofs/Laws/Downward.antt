@@ -1,41 +1,15 @@
 -- Words of one format added from the last one down: the digits and the round bit are those of the sum from the first one up. Assumes nothing.
 -- Proved here: `total-downward`.
 use Prim.Native.Nat.{_≤_}
-use native.Mathlib.Nat.{add-assoc}
 use mathlib.Core.Path.{_≡_, refl, sym, ap, _∙_}
 use mathlib.Core.List.{List, [], _∷_, reverse, reverseAux}
-use lib.IntN.{+ℤ-assoc}
 use Rattle.words.specs.declared.Format.{Format}
-use Rattle.words.specs.declared.RoundBit.{RoundBit}
 use Rattle.words.specs.declared.RoundBitWord.{RoundBitWord}
-use Rattle.round_bit.specs.Arithmetic.{added, sumWord}
-use Rattle.round_bit.proofs.Laws.Added.{added-bit, added-comm}
-use Rattle.round_bit.proofs.Laws.Sums.{sum-format, one, both, sum-grouped}
+use Rattle.round_bit.specs.Arithmetic.{sumWord}
+use Rattle.round_bit.proofs.Laws.SumWords.{sum-word-bit, sum-word-comm, sum-word-assoc}
 use Rattle.filter_bank.specs.Bank.{addedTo, total}
 use Rattle.filter_bank.proofs.Rows.{AllGood}
-
--- ---- of round bits 0 and 1 the sum is associative, and it is commutative, digit for digit, whether it fits or not
-added-assoc : (m n p : RoundBit) → m .1 ≤ 1 → n .1 ≤ 1 → p .1 ≤ 1 → added (added m n) p ≡ added m (added n p)
-added-assoc m n p g h k =
-    sum-grouped (both (both (one m) (one n)) (one p)) ((g, h), k)
-    ∙ rw (+ℤ-assoc (m .0) (n .0) (p .0), add-assoc (m .1) (n .1) (p .1)) (sym (sum-grouped (both (one m) (both (one n) (one p))) (g, (h, k))))
-
-sum-word-assoc : (x y z : RoundBitWord) → x .number .1 ≤ 1 → y .number .1 ≤ 1 → z .number .1 ≤ 1 → sumWord (sumWord x y) z ≡ sumWord x (sumWord y z)
-unfolding sumWord
-sum-word-assoc x y z g h k = rw (added-assoc (x .number) (y .number) (z .number) g h k)
-
-sum-word-comm : (x y : RoundBitWord) → x .format ≡ y .format → sumWord x y ≡ sumWord y x
-unfolding sumWord
-sum-word-comm x y e = λ i. record { number = added-comm (x .number) (y .number) i; format = e i }
-
-sum-word-bit : (x y : RoundBitWord) → x .number .1 ≤ 1 → y .number .1 ≤ 1 → sumWord x y .number .1 ≤ 1
-unfolding sumWord
-sum-word-bit x y g h = added-bit (x .number) (y .number) g h
-
-added-format : (w : RoundBitWord) (ps : List RoundBitWord) → addedTo w ps .format ≡ w .format
-unfolding addedTo
-added-format w [] = refl
-added-format w (p ∷ more) = added-format (sumWord w p) more ∙ sum-format w p
+use Rattle.filter_bank.proofs.Summing.{added-format}
 
 module _ (f : Format) where
   -- a word in front of others is added to their sum

@@ -1,53 +1,68 @@
--- What the check of a channel tells: of every tap and sample, and of the formats of the products, the sums and the output. Assumes nothing.
--- Proved here: `tapFormat`, `sampleFormat`, `sumFormat`, `Passed`, `channel-passed`.
-use Prim.Native.Nat.{ℕ}
+-- What the check of a row and the products' unit tell: of every tap and sample, and of the formats of products and sums. Then the eight
+-- products are done, small and exact, and add up. Assumes nothing.
+-- Proved here: `taps-good`, `samples-good`, `products-right`, `row-passes`, `made`, `eight`, `sums`, `sums-down`, `sum-good`.
+use Prim.Native.Nat.{_*_, _^_}
 use native.Mathlib.Omega.{arith}
-use mathlib.Core.Path.{_≡_}
-use mathlib.Core.List.{List}
-use lib.Dec.{ltb}
-use lib.IntN.{pos, _+ℤ_}
+use mathlib.Core.Path.{_≡_, refl, sym, _∙_}
+use mathlib.Core.Bool.{false}
+use mathlib.Core.List.{List, [], reverse}
+use lib.ListN.{length, length-reverse}
 use Rattle.words.specs.Words.{badUnit}
-use Rattle.words.specs.Refusals.{refuse}
-use Rattle.words.specs.Formats.{format, narrowerCheck, answerCheck}
-use Rattle.words.specs.declared.Cause.the-variants.{UnitPast}
+use Rattle.words.specs.Formats.{format, answerCheck}
 use Rattle.words.specs.declared.Outcome.the-variants.{Done}
 use Rattle.words.specs.declared.Format.{Format}
 use Rattle.words.specs.declared.RoundBitWord.{RoundBitWord}
-use Rattle.words.proofs.Laws.{passed, three-passed, or-false, RightFormat}
+use Rattle.words.proofs.Laws.{RightFormat}
 use Rattle.words.proofs.Formats.{answer-right}
 use Rattle.round_bit.specs.Arithmetic.{productFormat}
-use Rattle.filter_bank.specs.Bank.{mostChannel, tapWidth, sampleWidth, sumWidth, cutDepth, unitOf}
-use Rattle.filter_bank.specs.Bank.{productsUnit, rowCheck, unitCheck, channelCheck}
-use Rattle.filter_bank.proofs.Rows.{AllGood, row-tells}
+use Rattle.filter_bank.specs.Bank.{tapWidth, sampleWidth, sumWidth, products, total, unitOf, productsUnit, rowCheck}
+use Rattle.filter_bank.proofs.Rows.{Good, AllGood, row-tells}
+use Rattle.filter_bank.proofs.Laws.Room.{AddUp, within-turned, room}
+use Rattle.filter_bank.proofs.Laws.Summands.{Multiplied, products-count, all-multiplied}
 
--- the format of all taps of a channel, and of all samples
+-- the format of all taps of a channel, of all samples, and of the sums
 abbrev pub tapFormat : List RoundBitWord → Format
 tapFormat taps = format tapWidth (unitOf taps)
 
 abbrev pub sampleFormat : List RoundBitWord → Format
 sampleFormat window = format sampleWidth (unitOf window)
 
--- the products are added in this one
 abbrev pub sumFormat : List RoundBitWord → List RoundBitWord → Format
 sumFormat taps window = format sumWidth (productsUnit taps window)
 
--- every tap and every sample is right and of its format, the products' format is right, and the sum's can be cut
 pub record Passed (taps window : List RoundBitWord) : Type 0 where
   pub taps-good : AllGood (tapFormat taps) taps
   pub samples-good : AllGood (sampleFormat window) window
   pub products-right : RightFormat (productFormat (tapFormat taps) (sampleFormat window))
-  pub cut-passes : narrowerCheck (sumFormat taps window) cutDepth ≡ Done
 
-pub channel-passed : (taps window : List RoundBitWord) (channel : ℕ) → channelCheck taps window channel ≡ Done → Passed taps window
-unfolding narrowerCheck answerCheck
-channel-passed taps window channel e =
-    let p = three-passed (refuse 17 (ltb mostChannel channel)) (rowCheck taps window) (unitCheck taps window) e in
-    let good = row-tells taps window (p .1) in
-    let unit = productsUnit taps window in
-    let u = or-false (badUnit unit) (badUnit (unit +ℤ pos cutDepth)) (passed UnitPast _ (p .2)) in
-    record {
-      taps-good = good .0;
-      samples-good = good .1;
-      products-right = answer-right (productFormat (tapFormat taps) (sampleFormat window)) (omega arith) (rw (u .0));
-      cut-passes = rw (u .1);
-    }
+pub row-passes : (taps window : List RoundBitWord) → rowCheck taps window ≡ Done → badUnit (productsUnit taps window) ≡ false → Passed taps window
+unfolding answerCheck
+row-passes taps window e u =
+    let good = row-tells taps window e in
+    let f = productFormat (tapFormat taps) (sampleFormat window) in
+    record { taps-good = good .0; samples-good = good .1; products-right = answer-right f (omega arith) (rw u) }
+
+module _ (taps window : List RoundBitWord) (p : Passed taps window) where
+  pub made : Multiplied (tapFormat taps) (sampleFormat window) taps window
+  made = all-multiplied (tapFormat taps) (sampleFormat window) (p .products-right) (omega arith) taps window (p .taps-good) (p .samples-good)
+
+  module _ (h : length taps ≡ 8) (k : length window ≡ 8) where
+    abbrev ps : List RoundBitWord
+    ps = products taps window
+
+    pub eight : length ps ≡ 8
+    eight = products-count taps window (k ∙ sym h) ∙ h
+
+    -- eight numbers of 27 digits have room in 27 + 4, from the first up and from the last down
+    pub sums : AddUp (sumFormat taps window) (length ps * 2 ^ 26) ps
+    sums = room (sumFormat taps window) 26 4 ps refl (made .within) (omega (arith, eight)) (omega (arith, eight))
+
+    pub sums-down : AddUp (sumFormat taps window) (length (reverse ps) * 2 ^ 26) (reverse ps)
+    sums-down =
+        let count = length-reverse ps ∙ eight in
+        let turned = within-turned (sumFormat taps window) (2 ^ 26) ps [] (made .within) (record {}) in
+        room (sumFormat taps window) 26 4 (reverse ps) refl turned (omega (arith, count)) (omega (arith, count))
+
+    -- so their sum is right
+    pub sum-good : Good (sumFormat taps window) (total ps)
+    sum-good = sums .within .good

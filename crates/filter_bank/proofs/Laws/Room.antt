@@ -1,11 +1,11 @@
 -- Words of one format that are small for it always add up: how many, and how small. Assumes nothing.
--- Proved here: `Within`, `AllWithin`, `within-good`, `within-turned`, `AddsUp`, `sum-within`, `adds-up`, `room`, `first-with-others`.
+-- Proved here: `good`, `size`, `within-good`, `within-turned`, `done`, `last`, `within`, `sum-within`, `adds-up`, `room`.
 use Prim.Native.Nat.{ℕ, suc, _+_, _-_, _*_, _^_, _≤_, _<_}
 use native.Mathlib.Omega.{arith}
 use native.Mathlib.Nat.{mul-le-mul, le-refl}
 use mathlib.Core.Path.{_≡_, refl, sym, _∙_}
 use mathlib.Core.List.{List, [], _∷_, reverseAux}
-use lib.ListN.{length, take, drop}
+use lib.ListN.{length}
 use lib.Pow.{pow-add}
 use lib.Signed.{mag}
 use Rattle.words.specs.RoundBit.{roundBitDone}
@@ -16,7 +16,7 @@ use Rattle.round_bit.specs.Arithmetic.{sumWord, sumOf}
 use Rattle.round_bit.proofs.Laws.Added.{added-size, added-bit}
 use Rattle.round_bit.proofs.Laws.Sums.{sum-fits}
 use Rattle.filter_bank.specs.Bank.{addedTo, total}
-use Rattle.filter_bank.specs.Claims.{AllDone, sumAnswers, lastWord}
+use Rattle.filter_bank.specs.Claims.{AllDone, sumAnswers, lastWord, additions, lastSum}
 use Rattle.filter_bank.proofs.Rows.{Good, AllGood}
 
 -- a right word of this format whose number has a size under b
@@ -70,19 +70,21 @@ adds-up f b k w (p ∷ more) g h e =
     let t = adds-up f b (suc k) (sumWord w p) more (rw one (s .1)) (h .1) (rw count at e) in
     record { done = rw (s .0) (refl, t .done); last = rw (s .0) (t .last); within = rw count (t .within) }
 
--- at most 2 ^ m words, each with a number of n + 1 digits, add up in n + 1 + m digits: to the first of them the others
+-- words of which to the first the others are added
+pub record AddUp (f : Format) (b : ℕ) (ps : List RoundBitWord) : Type 0 where
+  pub done : AllDone (additions ps)
+  pub last : lastSum ps ≡ total ps
+  pub within : Within f b (total ps)
+
+-- at most 2 ^ m words, each with a number of n + 1 digits, add up in n + 1 + m digits
 pub room : (f : Format) (n m : ℕ) (ps : List RoundBitWord) → f .width ≡ suc n + m → AllWithin f (2 ^ n) ps → 1 ≤ length ps → length ps ≤ 2 ^ m →
-    AddsUp f (length ps * 2 ^ n) (total (take 1 ps)) (drop 1 ps)
-unfolding addedTo
+    AddUp f (length ps * 2 ^ n) ps
 room f n m [] e h k c = absurd (omega arith)
 room f n m (p ∷ more) e h k c =
     let one : 1 * 2 ^ n ≡ 2 ^ n = omega arith in
     let count : 1 + length more ≡ suc (length more) = omega arith in
     let digits : f .width - 1 ≡ m + n = omega arith in
+    let s =
     rw count at (adds-up f (2 ^ n) 1 p more (rw one (h .0)) (h .1) (rw (digits, count, pow-add 2 m n) (mul-le-mul c (le-refl (2 ^ n)))))
-
--- which is the sum of them all
-pub first-with-others : (ps : List RoundBitWord) → addedTo (total (take 1 ps)) (drop 1 ps) ≡ total ps
-unfolding addedTo
-first-with-others [] = refl
-first-with-others (p ∷ more) = refl
+    in
+    record { done = s .done; last = s .last; within = s .within }

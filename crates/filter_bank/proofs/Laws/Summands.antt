@@ -1,5 +1,5 @@
 -- The products of good taps and good samples: each is done, exact, and small for the width in which they are added. Assumes nothing.
--- Proved here: `products-count`, `Multiplied`, `all-multiplied`.
+-- Proved here: `products-count`, `done`, `meant`, `within`, `added`, `exact`, `all-multiplied`.
 use Prim.Native.Nat.{suc, _-_, _^_, _≤_, _<_}
 use native.Mathlib.Omega.{arith}
 use native.Mathlib.Nat.{lt-of-lt-of-le}
@@ -17,7 +17,7 @@ use Rattle.words.specs.declared.Format.{Format}
 use Rattle.words.specs.declared.RoundBitWord.{RoundBitWord}
 use Rattle.words.proofs.Laws.{RightFormat, round-bit-right}
 use Rattle.round_bit.specs.Arithmetic.{sumWord, productFormat, productWord}
-use Rattle.round_bit.proofs.Laws.Added.{added-value}
+use Rattle.round_bit.proofs.Laws.SumWords.{sum-word-value}
 use Rattle.round_bit.proofs.Laws.Products.{Factors, product-is-word, product-word-right, product-value}
 use Rattle.filter_bank.specs.Bank.{sumWidth, extended, products, addedTo, total}
 use Rattle.filter_bank.specs.Claims.{productAnswers, extendedWords, AllDone, exactSum}
@@ -29,12 +29,6 @@ pub products-count : (taps window : List RoundBitWord) → length window ≡ len
 products-count [] window e = refl
 products-count (t ∷ taps) [] e = absurd (omega arith)
 products-count (t ∷ taps) (s ∷ window) e = ap suc (products-count taps window (omega arith))
-
--- the values add, also where the sum would not fit
-sum-word-value : (x y : RoundBitWord) → roundBitValue (sumWord x y) ≡ roundBitValue x +ℤ roundBitValue y
-unfolding sumWord value
-sum-word-value x y =
-    rw (added-value (x .number) (y .number)) (times-plus (pos 2) (x .number .0 +ℤ pos (x .number .1)) (y .number .0 +ℤ pos (y .number .1)))
 
 -- the products of taps of the format f and samples of the format g: each is done and is what is meant, each is small for the wider
 -- format, where it is right as well, and twice the value of their sum is the exact sum, also when they are added to another word

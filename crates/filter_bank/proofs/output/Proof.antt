@@ -3,7 +3,7 @@ use native.Mathlib.Omega.{arith}
 use mathlib.Core.Path.{_≡_, ap, _∙_}
 use mathlib.Core.List.{List}
 use Rattle.words.specs.declared.RoundBitWord.{RoundBitWord}
-use Rattle.filter_bank.specs.Bank.{row}
+use Rattle.filter_bank.specs.Bank.{rowOf}
 use Rattle.filter_bank.proofs.Checked.{taps-alone}
 use borrow.Author.Needs.{needs}
 use Rattle.filter_bank.proofs.output.Statement.{statement}
@@ -13,8 +13,8 @@ returns : tie.Need-returns
 returns c =
     let s = c .before .before in
     let n = s .args .channel in
-    let same : n ≤ 3 → row (s .args .t1) (n % 4) ≡ row (s .args .t1) n = λ h. ap (row (s .args .t1)) (omega arith) in
-    c .channel-output .ensures ∙ taps-alone _ (row (s .args .t1) n) (s .args .window) n same
+    let same : n ≤ 3 → rowOf (s .args .t1) (n % 4) ≡ rowOf (s .args .t1) n = λ h. ap (rowOf (s .args .t1)) (omega arith) in
+    c .channel-output .ensures ∙ taps-alone _ (rowOf (s .args .t1) n) (s .args .window) n same
 
 pub output-spec : {M : Type 1} → statement M
 output-spec =

@@ -1,7 +1,7 @@
 use Prim.Native.Nat.{_%_, _≤_}
 use native.Mathlib.Omega.{arith}
 use mathlib.Core.Path.{_≡_, ap, _∙_}
-use Rattle.filter_bank.specs.Bank.{row, outputOf}
+use Rattle.filter_bank.specs.Bank.{rowOf, outputOf}
 use Rattle.filter_bank.proofs.Checked.{taps-alone}
 use Rattle.frostuldi.specs.Boundary.{bankIn, windowIn}
 use borrow.Author.Needs.{needs}
@@ -15,9 +15,9 @@ returns c =
     let bank = bankIn (s .args .bank) in
     let window = windowIn (s .args .window) in
     let n = s .args .channel in
-    let own : n ≤ 3 → row bank (n % 4) ≡ row bank n = λ h. ap (row bank) (omega arith) in
+    let own : n ≤ 3 → rowOf bank (n % 4) ≡ rowOf bank n = λ h. ap (rowOf bank) (omega arith) in
     let answer : r .channel-output .result ≡ outputOf bank window n =
-    r .channel-output .ensures ∙ rw (r .before .window-in .ensures, r .before .before .row-in .ensures) (taps-alone (row bank (n % 4)) (row bank n) window n own)
+    r .channel-output .ensures ∙ rw (r .before .window-in .ensures, r .before .before .row-in .ensures) (taps-alone (rowOf bank (n % 4)) (rowOf bank n) window n own)
     in
     rw (c .round-bit-out .ensures, answer)
 

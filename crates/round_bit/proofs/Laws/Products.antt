@@ -1,5 +1,6 @@
 -- The product: its fit, its value, its operands turned round and sign-changed. Assumes nothing.
--- Proved here: `product-is-word`, `product-word-right`, `product-closed`, `product-value`, `product-comm`, `product-sign-first`, `product-sign-second`, `product-sign-both`.
+-- Proved here: `first`, `second`, `format`, `product-is-word`, `product-word-right`, `product-closed`, `product-value`, `product-comm`,
+-- `product-sign-first`, `product-sign-second`, `product-sign-both`.
 use Prim.Native.Nat.{_+_, _-_}
 use native.Mathlib.Omega.{arith}
 use mathlib.Core.Path.{_≡_}
