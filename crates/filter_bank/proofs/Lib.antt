@@ -4,3 +4,6 @@ pub mod Times
 pub mod Summing
 pub mod Laws
 pub mod Checked
+mod Examples
+mod Wrong
+mod Unique

@@ -24,6 +24,7 @@ use Rattle.frostuldi.proofs.frost_half_unit_from_round_bit.Reads as fro
 use Rattle.frostuldi.proofs.frost_half_unit_sum_up.Reads as frost-half-unit-sum-up
 use Rattle.frostuldi.proofs.frost_half_unit_sum_even.Reads as frost-half-unit-sum-even
 use Rattle.frostuldi.proofs.frost_half_unit_product.Reads as frost-half-unit-product
+use Rattle.frostuldi.proofs.frost_bank_output.Reads as frost-bank-output
 use Rattle.frostuldi.proofs.frost_running_sum_open.Reads as frost-running-sum-open
 use Rattle.frostuldi.proofs.frost_running_sum_put.Reads as frost-running-sum-put
 use Rattle.frostuldi.proofs.frost_running_sum_hand_out.Reads as frost-running-sum-hand-out
@@ -96,6 +97,9 @@ frost-half-unit-sum-even-one a x y e f p q = p ∙ sym q
 
 frost-half-unit-product-one : OneResult (frost-half-unit-product.Post tt)
 frost-half-unit-product-one a x y e f p q = p ∙ sym q
+
+frost-bank-output-one : OneResult (frost-bank-output.Post tt)
+frost-bank-output-one a x y e f p q = p ∙ sym q
 
 frost-running-sum-open-one : OneResult (frost-running-sum-open.Post tt)
 frost-running-sum-open-one a x y e f p q = p ∙ sym q
