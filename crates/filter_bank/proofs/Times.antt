@@ -37,8 +37,8 @@ unfolding multiplied magnitudeProduct
 product-bit-is m n = turned-bit (exactlyOne (negative m) (negative n)) (magnitudeProduct (magnitude m) (magnitude n))
 
 -- ---- the number: the product's value less its round bit
-pub worth-fits : (n : RoundBit) → mag (n .0) < 2 ^ 15 → n .1 ≤ 1 → SFits w64 (n .0 +ℤ pos (n .1))
-worth-fits n h b = omega (ints, size-range (2 ^ 15) (n .0) h, b, plus-law (n .0) (pos (n .1)))
+pub worth-fits : (a : ℤ) (r : ℕ) → mag a < 2 ^ 15 → r ≤ 1 → SFits w64 (a +ℤ pos r)
+worth-fits a r h b = omega (ints, size-range (2 ^ 15) a h, b, plus-law a (pos r))
 
 abbrev valued : RoundBit → RoundBit → ℤ
 valued m n = (m .0 +ℤ pos (m .1)) *ℤ (n .0 +ℤ pos (n .1))

@@ -156,11 +156,11 @@ fn product_bit(t: RoundBit, s: RoundBit) -> u8
     turned_if(p ^ q, turned_if(p, t.1) & turned_if(q, s.1))
 }
 
-fn worth(n: RoundBit) -> i64
-    requires { ⌜ (mag (n .0) < 2 ^ 15) × (n .1 ≤ 1) ⌝ }
-    ensures { λ r. ⌜ r ≡ n .0 +ℤ pos (n .1) ⌝ }
+fn worth(a: i64, r: u8) -> i64
+    requires { ⌜ (mag a < 2 ^ 15) × (r ≤ 1) ⌝ }
+    ensures { λ v. ⌜ v ≡ a +ℤ pos r ⌝ }
 {
-    n.0 + n.1 as i64
+    a + r as i64
 }
 
 // A tap times its sample, round_bit's product in fewer steps: it is worth what they are worth, multiplied.
@@ -169,7 +169,7 @@ fn tap_product(t: RoundBit, s: RoundBit) -> RoundBit
     ensures { λ r. ⌜ r ≡ multiplied t s ⌝ }
 {
     let bit = product_bit(t, s);
-    RoundBit(worth(t) * worth(s) - bit as i64, bit)
+    RoundBit(worth(t.0, t.1) * worth(s.0, s.1) - bit as i64, bit)
 }
 
 // A sum and one more product.
