@@ -48,7 +48,8 @@ module _ (taps window : List RoundBitWord) (channel : ℕ) where
   pub row-passed : firstCheck ≡ Done → rowCheck taps window ≡ Done
   row-passed e = three-passed (refuse 17 (ltb mostChannel channel)) (rowCheck taps window) _ e .1
 
-  pub channel-refused : (c : Cause) → firstCheck ≡ Refused c → outputAnswer (roundBitRefused c .outcome) (roundBitRefused c .word) ≡ channelOutputOf taps window channel
+  pub channel-refused : (c : Cause) → firstCheck ≡ Refused c →
+      outputAnswer (roundBitRefused c .outcome) (roundBitRefused c .word) ≡ channelOutputOf taps window channel
   channel-refused c e =
       let u = productsUnit taps window in
       rw (more-causes (refuse 17 (ltb mostChannel channel)) (rowCheck taps window) (badUnit u) (badUnit (u +ℤ pos cutDepth)) c e)

@@ -46,7 +46,8 @@ ends = (refl, refl)
 -- taps worth 6, -3, 0, 1, -2048, 2048, 101 and -6, samples worth -9, 8, 10, 1, -32768, -32768, 12 and -20: the products are worth -54, -24,
 -- 0, 1, 2^26, -2^26, 1212 and 120, together 1255, held as (1254,1), which the cut takes for 0 and digit 10, which is 1
 abbrev mixedTaps : List RoundBitWord
-mixedTaps = tap (pos 5) 1 ∷ tap (negsuc 2) 0 ∷ tap (negsuc 0) 1 ∷ tap (pos 0) 1 ∷ tap (negsuc 2047) 0 ∷ tap (pos 2047) 1 ∷ tap (pos 100) 1 ∷ tap (negsuc 6) 1 ∷ []
+mixedTaps =
+    tap (pos 5) 1 ∷ tap (negsuc 2) 0 ∷ tap (negsuc 0) 1 ∷ tap (pos 0) 1 ∷ tap (negsuc 2047) 0 ∷ tap (pos 2047) 1 ∷ tap (pos 100) 1 ∷ tap (negsuc 6) 1 ∷ []
 
 abbrev mixedSamples : List RoundBitWord
 mixedSamples =

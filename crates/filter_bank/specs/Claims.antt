@@ -47,8 +47,8 @@ abbrev pub AllDone : List RoundBitAnswer → Type 0
 AllDone [] = record {}
 AllDone (a ∷ more) = (a .outcome ≡ Done) × AllDone more
 
--- the exact sum of tap value times sample value. A value is in half units, so this is in quarters of
--- the products' unit
+-- the exact sum of tap value times sample value. A value is in half units, so this is in quarters
+-- of the products' unit
 abbrev pub exactSum : List RoundBitWord → List RoundBitWord → ℤ
 exactSum [] window = pos 0
 exactSum (t ∷ taps) [] = pos 0

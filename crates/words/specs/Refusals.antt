@@ -1,4 +1,4 @@
--- Document 01, "Refusal numbers": the table, with the rows that the requests of document 02 added, and
+-- Document 01, "Refusal numbers": the table, with the rows that requests of document 02 added, and
 -- the rule for several causes.
 use Rattle.integers.specs.Names.{ℕ, Bool, true, false, not, _&&_, _||_}
 use Rattle.integers.specs.Names.{List, [], _∷_, eqb, ℤ, pos, eqZ, atFront}

@@ -39,7 +39,8 @@ returns c =
     let one = c .before .before in
     let b = s one in
     c .turned-if3 .ensures
-    ∙ rw (first one, second (c .before), toZ-ofZ (t-fits one), toZ-ofZ (s-fits one), exactly-one (negative (b .args .t)) (negative (b .args .s))) (sym (product-bit-is (b .args .t) (b .args .s)))
+    ∙ rw (first one, second (c .before), toZ-ofZ (t-fits one), toZ-ofZ (s-fits one), exactly-one (negative (b .args .t)) (negative (b .args .s)))
+    (sym (product-bit-is (b .args .t) (b .args .s)))
 
 pub product-bit-spec : {M : Type 1} → statement M
 product-bit-spec = tie.close (tie.spec (λ c κs. search needs) (λ c κs. search needs) turned-if-requires-3 returns)

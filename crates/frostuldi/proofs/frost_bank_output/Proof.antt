@@ -16,8 +16,9 @@ returns c =
     let window = windowIn (s .args .window) in
     let n = s .args .channel in
     let own : n ≤ 3 → rowOf bank (n % 4) ≡ rowOf bank n = λ h. ap (rowOf bank) (omega arith) in
+    let a = taps-alone (rowOf bank (n % 4)) (rowOf bank n) window n own in
     let answer : r .channel-output .result ≡ outputOf bank window n =
-    r .channel-output .ensures ∙ rw (r .before .window-in .ensures, r .before .before .row-in .ensures) (taps-alone (rowOf bank (n % 4)) (rowOf bank n) window n own)
+    r .channel-output .ensures ∙ rw (r .before .window-in .ensures, r .before .before .row-in .ensures) a
     in
     rw (c .round-bit-out .ensures, answer)
 
