@@ -2,8 +2,9 @@
 // channel's output, which is the sum of tap times sample, cut by 11.
 //
 // Taps have width 12, samples width 16. Their products have width 27 and are added in width 31, which
-// eight of them never leave; the cut leaves width 20. Each product, each addition and the cut is asked
-// of round_bit. What is here is the checks, in their order, and the way along the taps.
+// eight of them never leave; the cut, round_bit's own, leaves width 20. A product and a sum are what
+// round_bit defines, made here of numbers that have been checked, since its own functions would check
+// each of them again.
 //
 // The definitions are in specs/Bank.antt, what is claimed of an output in specs/Claims.antt.
 ghost use mathlib.Core.Path.{_≡_};
@@ -163,7 +164,7 @@ fn worth(a: i64, r: u8) -> i64
     a + r as i64
 }
 
-// A tap times its sample, round_bit's product in fewer steps: it is worth what they are worth, multiplied.
+// A tap times its sample: it is worth what they are worth, multiplied.
 fn tap_product(t: RoundBit, s: RoundBit) -> RoundBit
     requires { ⌜ (mag (t .0) < 2 ^ 11) × (t .1 ≤ 1) × (mag (s .0) < 2 ^ 15) × (s .1 ≤ 1) ⌝ }
     ensures { λ r. ⌜ r ≡ multiplied t s ⌝ }

@@ -13,8 +13,8 @@ use Rattle.words.specs.declared.Format.{Format}
 use Rattle.words.specs.declared.WriteAnswer.{WriteAnswer}
 use Rattle.words.specs.Words.{badWidth, badUnit, outside, badRoundBit}
 
--- the table: each cause once, and below the number of each, which docs/REFUSALS.md has in words. The
--- last is document 02's, Ask 1: "17 for a channel over 3"
+-- the table: each cause once, and below the number of each, which docs/REFUSALS.md has in words.
+-- The last is document 02's, Ask 1: "17 for a channel over 3"
 abbrev pub causes : List Cause
 causes =
     Width ∷ Unit ∷ Number ∷ Mismatch ∷ Depth ∷ WidthPast ∷ UnitPast ∷ NumberPast
@@ -86,8 +86,8 @@ formatCheck f = refuse 1 (badWidth (f .width)) orElse refuse 2 (badUnit (f .unit
 unfoldable pub wordCheck : Format → ℤ → ℕ → Outcome
 wordCheck f x r = formatCheck f orElse refuse 3 (outside f x || badRoundBit r)
 
--- 4 is for operands, or a word and its running sum, that "differ in width or unit", and for the words
--- of a bank that have "unlike units or any other width"
+-- 4 is for operands, or a word and its running sum, that "differ in width or unit", and for a bank's
+-- words of "unlike units or any other width"
 abbrev pub differ : Format → Format → Bool
 differ f g = not (eqb (f .width) (g .width) && eqZ (f .unit) (g .unit))
 

@@ -17,7 +17,7 @@ use Rattle.words.proofs.Formats.{answer-right}
 use Rattle.round_bit.specs.Arithmetic.{productFormat}
 use Rattle.filter_bank.specs.Bank.{tapWidth, sampleWidth, sumWidth, products, total, unitOf, productsUnit, rowCheck}
 use Rattle.filter_bank.proofs.Rows.{Good, AllGood, row-tells}
-use Rattle.filter_bank.proofs.Laws.Room.{AddUp, within-turned, room}
+use Rattle.filter_bank.proofs.Laws.Room.{AddUp, within-turned, enough-room}
 use Rattle.filter_bank.proofs.Laws.Summands.{Multiplied, products-count, all-multiplied}
 
 -- the format of all taps of a channel, of all samples, and of the sums
@@ -55,13 +55,13 @@ module _ (taps window : List RoundBitWord) (p : Passed taps window) where
 
     -- eight numbers of 27 digits have room in 27 + 4, from the first up and from the last down
     pub sums : AddUp (sumFormat taps window) (length ps * 2 ^ 26) ps
-    sums = room (sumFormat taps window) 26 4 ps refl (made .within) (omega (arith, eight)) (omega (arith, eight))
+    sums = enough-room (sumFormat taps window) 26 4 ps refl (made .within) (omega (arith, eight)) (omega (arith, eight))
 
     pub sums-down : AddUp (sumFormat taps window) (length (reverse ps) * 2 ^ 26) (reverse ps)
     sums-down =
         let count = length-reverse ps ∙ eight in
         let turned = within-turned (sumFormat taps window) (2 ^ 26) ps [] (made .within) (record {}) in
-        room (sumFormat taps window) 26 4 (reverse ps) refl turned (omega (arith, count)) (omega (arith, count))
+        enough-room (sumFormat taps window) 26 4 (reverse ps) refl turned (omega (arith, count)) (omega (arith, count))
 
     -- so their sum is right
     pub sum-good : Good (sumFormat taps window) (total ps)

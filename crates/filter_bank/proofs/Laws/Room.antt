@@ -1,5 +1,5 @@
 -- Words of one format that are small for it always add up: how many, and how small. Assumes nothing.
--- Proved here: `good`, `size`, `within-good`, `within-turned`, `done`, `last`, `within`, `sum-within`, `adds-up`, `room`.
+-- Proved here: `good`, `size`, `within-good`, `within-turned`, `done`, `last`, `within`, `sum-within`, `adds-up`, `enough-room`.
 use Prim.Native.Nat.{ℕ, suc, _+_, _-_, _*_, _^_, _≤_, _<_}
 use native.Mathlib.Omega.{arith}
 use native.Mathlib.Nat.{mul-le-mul, le-refl}
@@ -77,10 +77,10 @@ pub record AddUp (f : Format) (b : ℕ) (ps : List RoundBitWord) : Type 0 where
   pub within : Within f b (total ps)
 
 -- at most 2 ^ m words, each with a number of n + 1 digits, add up in n + 1 + m digits
-pub room : (f : Format) (n m : ℕ) (ps : List RoundBitWord) → f .width ≡ suc n + m → AllWithin f (2 ^ n) ps → 1 ≤ length ps → length ps ≤ 2 ^ m →
+pub enough-room : (f : Format) (n m : ℕ) (ps : List RoundBitWord) → f .width ≡ suc n + m → AllWithin f (2 ^ n) ps → 1 ≤ length ps → length ps ≤ 2 ^ m →
     AddUp f (length ps * 2 ^ n) ps
-room f n m [] e h k c = absurd (omega arith)
-room f n m (p ∷ more) e h k c =
+enough-room f n m [] e h k c = absurd (omega arith)
+enough-room f n m (p ∷ more) e h k c =
     let one : 1 * 2 ^ n ≡ 2 ^ n = omega arith in
     let count : 1 + length more ≡ suc (length more) = omega arith in
     let digits : f .width - 1 ≡ m + n = omega arith in
