@@ -24,7 +24,6 @@ use words::Format;
 use words::FormatAnswer;
 use words::Outcome;
 use words::RoundBit;
-use words::RoundBitAnswer;
 use words::RoundBitWord;
 
 pub const CHANNELS: u32 = 4;

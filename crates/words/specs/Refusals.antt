@@ -86,8 +86,8 @@ formatCheck f = refuse 1 (badWidth (f .width)) orElse refuse 2 (badUnit (f .unit
 unfoldable pub wordCheck : Format → ℤ → ℕ → Outcome
 wordCheck f x r = formatCheck f orElse refuse 3 (outside f x || badRoundBit r)
 
--- 4 is for operands, or a word and its running sum, that "differ in width or unit", and for words of
--- a bank, for "unlike units or any other width"
+-- 4 is for operands, or a word and its running sum, that "differ in width or unit"; in a bank for
+-- "unlike units or any other width"
 abbrev pub differ : Format → Format → Bool
 differ f g = not (eqb (f .width) (g .width) && eqZ (f .unit) (g .unit))
 
