@@ -97,14 +97,15 @@ static inline const char *frost_refusal_text(uint32_t refusal)
         return "a number is outside its width, or a round bit is not 0 or 1, or a round byte in a block of kind 0 or 2 is "
                "not 0";
     case FROST_REFUSED_MISMATCH:
-        return "a sum's operands, or a word and its running sum, differ in width or unit; or a filter bank's taps, or its "
-               "samples, differ in unit, or a tap is not 12 wide or a sample not 16";
+        return "a sum's operands, or a word and its running sum, differ in width or unit; or the taps of a filter bank's "
+               "channel, or the samples of its window, differ in unit, or one of these taps is not 12 wide or a sample not "
+               "16";
     case FROST_REFUSED_DEPTH:
         return "a cut, or a conversion with a depth, would leave fewer than 2 digits; or a running sum has, or is opened "
                "with, a depth of 0 or more than its width less 2";
     case FROST_REFUSED_WIDTH_PAST: return "the answer's width would pass 63";
     case FROST_REFUSED_UNIT_PAST:
-        return "the answer's unit exponent, or that of a filter bank's products, would leave -127 to 127";
+        return "the answer's unit exponent, or that of the products of a filter bank's channel, would leave -127 to 127";
     case FROST_REFUSED_NUMBER_PAST: return "the answer's number does not fit its width";
     case FROST_REFUSED_DIGIT_TEXT:
         return "a digit text has a byte that is not `+`, `0` or `-`, or two nonzero digits of one sign with nothing or "
@@ -112,7 +113,7 @@ static inline const char *frost_refusal_text(uint32_t refusal)
     case FROST_REFUSED_BUFFER: return "a lent buffer is too short for what would be written";
     case FROST_REFUSED_MARK: return "a file's mark or version is wrong";
     case FROST_REFUSED_FORM: return "a file's length, kind or count is wrong";
-    case FROST_REFUSED_CHANNEL: return "a channel of the filter bank is over 3";
+    case FROST_REFUSED_CHANNEL: return "the channel that a filter bank is asked for is over 3";
     default: return "no refusal has this number";
     }
 }

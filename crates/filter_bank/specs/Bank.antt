@@ -57,8 +57,8 @@ abbrev pub total : List RoundBitWord → RoundBitWord
 total [] = roundBitWord (pos 0) 0 (format sumWidth (pos 0))
 total (p ∷ more) = addedTo p more
 
--- "one channel's output": the round-bit cut of the sum, "to width 20". That no sum leaves width 31,
--- and the output none of its own, is shown: specs/Claims.antt
+-- "one channel's output": the round-bit cut of the sum, "to width 20". That no sum leaves width 31
+-- and no output width 20 is claimed in specs/Claims.antt
 unfoldable pub outputWord : List RoundBitWord → List RoundBitWord → RoundBitWord
 outputWord taps window = cutWord (total (products taps window)) cutDepth
 

@@ -10,7 +10,7 @@ use Rattle.words.specs.RoundBit.{roundBitValue, roundBitCheck}
 use Rattle.round_bit.specs.Cuts.{cutOf}
 use Rattle.round_bit.specs.Arithmetic.{sumOf, productOf}
 use Rattle.round_bit.specs.declared.CutAnswer.{CutAnswer}
-use Rattle.filter_bank.specs.Bank.{cutDepth, rowOf, extended, products, total, outputWord}
+use Rattle.filter_bank.specs.Bank.{cutDepth, rowOf, extended, total, outputWord}
 use Rattle.filter_bank.specs.Bank.{productsUnit, outputAnswer, channelOutputOf, outputOf}
 
 -- what the operations themselves answer, each asked with the word that the one before answered:
@@ -43,6 +43,7 @@ abbrev pub lastSum : List RoundBitWord → RoundBitWord
 lastSum [] = total []
 lastSum (p ∷ more) = lastWord p (sumAnswers p more)
 
+-- each of them is done
 abbrev pub AllDone : List RoundBitAnswer → Type 0
 AllDone [] = record {}
 AllDone (a ∷ more) = (a .outcome ≡ Done) × AllDone more
@@ -54,18 +55,19 @@ exactSum [] window = pos 0
 exactSum (t ∷ taps) [] = pos 0
 exactSum (t ∷ taps) (s ∷ window) = (roundBitValue t *ℤ roundBitValue s) +ℤ exactSum taps window
 
+-- half an output unit, in the same quarters
+abbrev pub halfOutputUnit : ℕ
+halfOutputUnit = 2 ^ suc cutDepth
+
 module _ (taps window : List RoundBitWord) where
   abbrev pub summands : List RoundBitWord
   summands = extendedWords (productAnswers taps window)
 
+  -- the last of the operations is the cut of the last sum
   abbrev pub lastCut : CutAnswer
   lastCut = cutOf (lastSum summands) cutDepth
 
-  -- half an output unit, in quarters of the products' unit
-  abbrev pub halfOutputUnit : ℕ
-  halfOutputUnit = 2 ^ suc cutDepth
-
-  -- the output's value less the exact sum, in those quarters
+  -- the output's value less the exact sum, in quarters again
   abbrev pub errorOf : ℤ
   errorOf =
       (roundBitValue (outputWord taps window) *ℤ pos halfOutputUnit) -ℤ exactSum taps window
@@ -79,15 +81,15 @@ pub record Claims (taps window : List RoundBitWord) (channel : ℕ) : Type 0 whe
   -- the answer is what the last of them hands out,
   pub chained : channelOutputOf taps window channel
       ≡ outputAnswer (lastCut taps window .outcome) (lastCut taps window .word)
-  -- and its number fits its width
+  -- and it passes its own check: its number fits its width
   pub fits : roundBitCheck (outputWord taps window) ≡ Done
   -- "cut by 11 to width 20", and the unit of the products is 2 ^ 11 times finer
   pub form : outputWord taps window .format ≡ format 20 (productsUnit taps window +ℤ pos cutDepth)
   -- the value is within half an output unit of the exact sum
-  pub near : natAbs (errorOf taps window) ≤ halfOutputUnit taps window
-  -- "added from tap 0 up", or from tap 7 down: all are done, and the sum is the same word
+  pub near : natAbs (errorOf taps window) ≤ halfOutputUnit
+  -- "added from tap 0 up", or from tap 7 down: all are done, and the last answers the same word
   pub downward-done : AllDone (additions (reverse (summands taps window)))
-  pub downward : total (reverse (products taps window)) ≡ total (products taps window)
+  pub downward : lastSum (reverse (summands taps window)) ≡ lastSum (summands taps window)
 
 -- all this of every bank, window and channel whose output is done
 abbrev pub Claimed : Type 0

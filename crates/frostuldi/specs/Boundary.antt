@@ -1,5 +1,5 @@
 -- The C boundary: how a flat word is read, and how an answer is laid flat. An outcome is its number
--- in document 01's table, 0 for done.
+-- in the table of refusals, 0 for done.
 use mathlib.Core.List.{map}
 use Rattle.integers.specs.Names.{ℕ, List}
 use Rattle.words.specs.declared.Outcome.{Outcome}
@@ -45,7 +45,7 @@ roundBitIn w = roundBitWord (w .number) (w .round) (format (w .width) (w .unit))
 abbrev pub sumIn : FrostRunningSum → RunningSum
 sumIn s = record { kept = roundBitIn (s .kept); depth = s .depth }
 
--- a row, a bank and a window are lists of their words
+-- a row and a window are lists of their words, a bank is the list of its rows
 abbrev pub tapsIn : FrostTaps → List RoundBitWord
 tapsIn t = map roundBitIn (t .taps)
 

@@ -98,5 +98,5 @@ module _ (taps window : List RoundBitWord) (channel : ℕ) (e : channelCheck tap
         form = form;
         near = near;
         downward-done = rw meant (sums-down taps window told h k .done);
-        downward = downward;
+        downward = rw meant (sums-down taps window told h k .last ∙ downward ∙ sym (sums taps window told h k .last));
       }

@@ -28,7 +28,7 @@ output-closed bank window channel h k e =
     let p = passed bank window channel e in
     rw (p .1) (channel-closed (rowOf bank channel) window channel (p .0) h k)
 
--- ---- two banks that agree in the channel's row give one answer; a channel over 3 has none in either
+-- ---- two banks that agree in the channel's row give one answer; for a channel over 3 no row is looked at
 pub row-alone : (bank other : List (List RoundBitWord)) (window : List RoundBitWord) (channel : ℕ) →
     (channel ≤ mostChannel → rowOf bank channel ≡ rowOf other channel) → outputOf bank window channel ≡ outputOf other window channel
 row-alone bank other window channel h = taps-alone (rowOf bank channel) (rowOf other channel) window channel h
