@@ -1,6 +1,6 @@
 -- The loop that adds the products of a row: what it has when it starts, what a turn does, and what it has at the end. Assumes nothing.
 -- Proved here: `size`, `bit`, `left`, `tap-small`, `sample-small`, `times-small`, `first-kept`, `next-kept`, `all-kept`, `added-format`, `total-format`.
-use Prim.Native.Nat.{ℕ, _+_, _*_, _^_, _≤_, _<_}
+use Prim.Native.Nat.{ℕ, _+_, _-_, _*_, _^_, _≤_, _<_}
 use native.Mathlib.Omega.{arith}
 use mathlib.Core.Path.{_≡_, refl}
 use mathlib.Core.List.{List, [], _∷_}
@@ -9,13 +9,14 @@ use lib.Signed.{mag}
 use lib.ListN.{length, drop}
 use Rattle.words.specs.Formats.{format}
 use Rattle.words.specs.declared.Outcome.the-variants.{Done}
+use Rattle.words.specs.declared.Format.{Format}
 use Rattle.words.specs.declared.RoundBit.{RoundBit}
 use Rattle.words.specs.declared.RoundBitWord.{RoundBitWord}
 use Rattle.round_bit.specs.Arithmetic.{added, sumWord, multiplied, productWord}
 use Rattle.round_bit.proofs.Laws.Added.{added-bit, added-size}
 use Rattle.round_bit.proofs.Laws.Multiplied.{multiplied-bit, multiplied-size}
 use Rattle.filter_bank.specs.Bank.{sumWidth, extended, products, addedTo, total, productsUnit, rowCheck}
-use Rattle.filter_bank.proofs.Rows.{Good, row-tells, at, good-at}
+use Rattle.filter_bank.proofs.Rows.{AllGood, row-tells, at, good-at}
 use Rattle.filter_bank.proofs.Along.{products-turn, row-end}
 
 -- a number of n digits and a sign, with a right round bit
@@ -23,12 +24,16 @@ pub record Small (n : ℕ) (m : RoundBit) : Type 0 where
   pub size : mag (m .0) < 2 ^ n
   pub bit : m .1 ≤ 1
 
+-- so are the numbers of good words, each with a digit fewer than its width
+good-small : (f : Format) (ws : List RoundBitWord) (i : ℕ) → AllGood f ws → i < length ws → Small (f .width - 1) (at ws i .number)
+good-small f ws i a h = let g = good-at f ws i a h in record { size = rw (g .same) at (g .right .size); bit = g .right .bit }
+
 module _ (ts ss : List RoundBitWord) (check : rowCheck ts ss ≡ Done) (i : ℕ) where
   pub tap-small : i < length ts → Small 11 (at ts i .number)
-  tap-small h = let g = good-at _ ts i (row-tells ts ss check .0) h in record { size = rw (g .same) at (g .right .size); bit = g .right .bit }
+  tap-small = good-small _ ts i (row-tells ts ss check .0)
 
   pub sample-small : i < length ss → Small 15 (at ss i .number)
-  sample-small h = let g = good-at _ ss i (row-tells ts ss check .1) h in record { size = rw (g .same) at (g .right .size); bit = g .right .bit }
+  sample-small = good-small _ ss i (row-tells ts ss check .1)
 
 product-small : (m n : RoundBit) → Small 11 m → Small 15 n → Small 26 (multiplied m n)
 product-small m n s t = record { size = multiplied-size m n 11 15 (s .size) (t .size) (s .bit) (t .bit); bit = multiplied-bit m n (s .bit) }
