@@ -1,6 +1,6 @@
 // The boundary: every operation as C sees it. Nothing is decided here.
 //
-// A word is a flat struct by value, an outcome its number in document 01's table. Two kinds of word are
+// A word is a flat struct by value, an outcome its number in the table of refusals. Two kinds of word are
 // two structs, also where their fields are alike. A C caller is never checked, so no function here asks
 // anything of what it is handed; a lent buffer is a pointer and a length. include/frostuldi.h declares
 // all of it and says what no proof covers.

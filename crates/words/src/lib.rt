@@ -3,7 +3,7 @@
 // A word is a number in a format: a width of 2 to 63 digits and a unit 2^e, e from -127 to 127. The
 // same digits mean three amounts, 5, (5,1) = 6 and 5.5, so each kind of number is a type of its own
 // and none is taken for another. A call answers an outcome, done or refused for one cause of the
-// table in document 01, and a word: the blank one where it refused.
+// table of refusals, and a word: the blank one where it refused.
 //
 // Every function here takes any value of these types. The definitions are in specs/, in document
 // 01's order; what a passed check tells is in proofs/Laws.antt.
