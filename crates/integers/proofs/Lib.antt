@@ -4,6 +4,7 @@ pub mod Floor
 pub mod Digits
 pub mod LowDigits
 pub mod Even
+pub mod Ties
 pub mod Width
 pub mod Halves
 pub mod Machine

@@ -1,5 +1,5 @@
 -- Laws of the digits below an index and of the low digits, at every depth. Assumes nothing.
--- Proved here: `below-law`, `below-more`, `lowest-below`, `below-range`, `low-law`, `floor-low-digits`, `low-range`, `any-le`, `none-below`,
+-- Proved here: `below-law`, `below-more`, `lowest-below`, `below-range`, `below-turned`, `low-law`, `floor-low-digits`, `low-range`, `any-le`, `none-below`,
 -- `some-below`, `low-none`, `none-low`, `fits-digits`, `below-split`, `below-same`, `low-below`, `below-low`.
 use mathlib.Core.Path.{_≡_, refl, sym, ap, _∙_}
 use Prim.Native.Nat.{ℕ, zero, suc, _+_, _*_, _^_, _<_, _≤_}
@@ -9,9 +9,9 @@ use lib.Bits.{bitOr, or-lt, or-add-and, and-le-l, and-le-r}
 use lib.Pow.{pow-pos, pow-add}
 use lib.IntN.{ℤ, pos, _+ℤ_, _*ℤ_}
 use lib.Signed.{mag}
-use Rattle.integers.specs.Numbers.{floorBy, digit, digitsBelow, anyBelow, lowDigits, lowest}
+use Rattle.integers.specs.Numbers.{turned, floorBy, digit, digitsBelow, anyBelow, lowDigits, lowest}
 use Rattle.integers.proofs.Kit.{up, down, ints, plus-law, minus-law, times-law, size-range, by-size}
-use Rattle.integers.proofs.Floor.{floor-high, floor-floor, floor-none, floor-range}
+use Rattle.integers.proofs.Floor.{turned-law, floor-turned, floor-high, floor-floor, floor-none, floor-range}
 use Rattle.integers.proofs.Digits.{digit-le, digit-law, split-digit}
 
 -- ---- the digits below k are what a floor by 2 ^ k leaves
@@ -36,6 +36,11 @@ lowest-below x = rw (floor-none x) (omega arith)
 
 pub below-range : (x : ℤ) (k : ℕ) → digitsBelow x k < 2 ^ k
 below-range x k = omega (arith, below-law x k, floor-high x k)
+
+pub below-turned : (x : ℤ) (k : ℕ) → digitsBelow (turned x) k + digitsBelow x k + 1 ≡ 2 ^ k
+below-turned x k =
+    let floors = ap (λ (i : ℕ). i * 2 ^ k) (turned-law (floorBy x k)) in
+    omega (arith, below-law x k, rw (floor-turned x k) at (below-law (turned x) k), turned-law x, floors)
 
 -- ---- the low digits: x = (floor (x / 2 ^ d) + digit d - 1) * 2 ^ d + low digits, for d = k + 1
 pub low-law : (x : ℤ) (k : ℕ) → up (lowDigits x (suc k)) + digit x k * 2 ^ k ≡ digitsBelow x k + down (lowDigits x (suc k))

@@ -1,9 +1,10 @@
 -- Laws of the product that the library of ℤ lacks. Assumes nothing.
--- Proved here: `plus-times`, `times-assoc`, `times-plus`, `neg-times`, `times-neg`, `near-twice`.
+-- Proved here: `plus-times`, `times-assoc`, `times-plus`, `neg-times`, `times-neg`, `near-twice`, `one-near`.
 use mathlib.Core.Path.{_≡_, ap}
-use Prim.Native.Nat.{ℕ, _*_, _≤_}
+use Prim.Native.Nat.{ℕ, _+_, _*_, _<_, _≤_}
+use native.Mathlib.Nat.{lt-of-mul-lt-mul-right}
 use lib.IntN.{ℤ, pos, negℤ, natAbs, _+ℤ_, _-ℤ_, _*ℤ_, *ℤ-comm}
-use Rattle.integers.proofs.Kit.{up, down, ints, plus-law, neg-law, minus-law, times-law, abs-range, by-abs}
+use Rattle.integers.proofs.Kit.{up, down, ints, plus-law, neg-law, minus-law, times-law, abs-range, by-abs, abs-law}
 
 pub plus-times : (a b c : ℤ) → (a +ℤ b) *ℤ c ≡ (a *ℤ c) +ℤ (b *ℤ c)
 plus-times a b c =
@@ -57,3 +58,23 @@ near-twice x v e q p h =
       times-law (pos 2) v,
       abs-range q ((x *ℤ pos q) -ℤ v) h,
     ))
+
+-- two counts of p that are together less than p away from v are one
+pub one-near : (x y v : ℤ) (p : ℕ) → natAbs ((x *ℤ pos p) -ℤ v) + natAbs ((y *ℤ pos p) -ℤ v) < p → x ≡ y
+one-near x y v p h = omega (ints, side x y h, side y x (omega ints))
+  where
+    side : (x y : ℤ) → natAbs ((x *ℤ pos p) -ℤ v) + natAbs ((y *ℤ pos p) -ℤ v) < p → up x + down y < up y + 1 + down x
+    side x y h =
+        let a = (x *ℤ pos p) -ℤ v in
+        let b = (y *ℤ pos p) -ℤ v in
+        lt-of-mul-lt-mul-right p
+        (omega (
+          ints,
+          h,
+          abs-law a,
+          abs-law b,
+          minus-law (x *ℤ pos p) v,
+          minus-law (y *ℤ pos p) v,
+          times-law x (pos p),
+          times-law y (pos p),
+        ))

@@ -10,6 +10,6 @@ pub use lib.IntN.{ℤ, pos, negsuc, negℤ, natAbs, _+ℤ_, _-ℤ_, _*ℤ_}
 pub use lib.Signed.{ltZ}
 pub use lib.ListN.{length, getD}
 pub use Rattle.integers.specs.Numbers.{lies, eqZ, exactlyOne, fitsWidth, turned, floorBy}
-pub use Rattle.integers.specs.Numbers.{cleared, digit, anyBelow, lowDigits}
+pub use Rattle.integers.specs.Numbers.{lowest, cleared, digit, anyBelow, lowDigits}
 pub use Rattle.integers.specs.Lists.{tab, atFront, flat, firstBad}
 pub use Rattle.integers.specs.Bytes.{ofBytes, signedOfBytes, bytesOf, part, sameBytes}

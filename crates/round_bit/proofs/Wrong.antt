@@ -6,7 +6,7 @@ use mathlib.Core.List.{List, [], _∷_, _++_}
 use mathlib.Core.Path.{_≡_, refl}
 use lib.IntN.{pos, negsuc}
 use lib.ListN.{length, getD}
-use Rattle.integers.specs.Numbers.{fitsWidth, floorBy, lowest, digit, digitsBelow, anyBelow, lowDigits}
+use Rattle.integers.specs.Numbers.{fitsWidth, floorBy, lowest, digit, digitsBelow, lowDigits}
 use Rattle.integers.specs.Lists.{firstBad, all}
 use Rattle.words.specs.Refusals.{formatCheck, wordCheck}
 use Rattle.words.specs.Formats.{narrowerCheck, answerCheck}
@@ -104,6 +104,16 @@ mistakes =
     -- a tie rounded up; the plain cut's refusal let through
     ∷ evenCut (at 5 (pos 2) 0) 2 (flat 0 (pos 0) 1 3 (pos 2))
     ∷ evenCut (at 3 (pos 3) 0) 2 (flat 0 (pos 0) 1 1 (pos 2))
+    -- the old rule, with the tie looked for at a: (1,1) was 2 and came out 0, (2,1) was 3 and came out 2, (-2,1) was -1 and came out -2
+    ∷ evenCut (at 5 (pos 1) 1) 1 (flat 0 (pos 0) 0 4 (pos 1))
+    ∷ evenCut (at 5 (pos 2) 1) 1 (flat 0 (pos 1) 0 4 (pos 1))
+    ∷ evenCut (at 5 (negsuc 1) 1) 1 (flat 0 (negsuc 0) 0 4 (pos 1))
+    -- a tie to the odd side, from an odd floor and from an even one, where it is also a tie rounded up
+    ∷ evenCut (at 5 (pos 6) 0) 2 (flat 0 (pos 1) 0 3 (pos 2))
+    ∷ evenCut (at 5 (pos 0) 1) 1 (flat 0 (pos 0) 1 4 (pos 1))
+    -- the right value with other digits, those of a + r; so also at depth 0
+    ∷ evenCut (at 5 (pos 1) 1) 1 (flat 0 (pos 1) 0 4 (pos 1))
+    ∷ evenCut (at 5 (pos 1) 1) 0 (done 5 (pos 2) 0)
     -- the round bit dropped in the number, and altogether
     ∷ widen (at 4 (pos 5) 1) 2 (flat 0 (pos 20) 1 6 (negsuc 1))
     ∷ widen (at 4 (pos 5) 1) 2 (flat 0 (pos 20) 0 6 (negsuc 1))
@@ -128,6 +138,6 @@ abbrev wrong : List Row
 wrong = standIns ++ mistakes
 
 all-wrong : all (length wrong) (λ k. differs (getD wrong k (toPlain (at 5 (pos 3) 1) (refused 3)))) ≡ true
-unfolding firstBad fitsWidth floorBy lowest digit digitsBelow anyBelow lowDigits formatCheck wordCheck narrowerCheck answerCheck plainCheck plainFitted
+unfolding firstBad fitsWidth floorBy lowest digit digitsBelow lowDigits formatCheck wordCheck narrowerCheck answerCheck plainCheck plainFitted
     roundBitCheck roundBitFitted signChangeWord cutBy restWord evenRoundBit widenWord sumWord magnitudeProduct multiplied productWord toPlainWord fromPlainWord
 all-wrong = refl

@@ -1,6 +1,7 @@
--- Document 01, "Round-bit words": sign change, cut, rest of a cut, even cut, widening on the right.
-use Rattle.integers.specs.Names.{ℕ, zero, suc, _-_, _*_, _^_, bitAnd, bitOr, ℤ, pos, _+ℤ_, _*ℤ_}
-use Rattle.integers.specs.Names.{turned, floorBy, digit, anyBelow, lowDigits}
+-- Document 01, "Round-bit words": sign change, cut, rest of a cut, even cut (its rule is Ask 2 of
+-- document 02), widening on the right.
+use Rattle.integers.specs.Names.{ℕ, zero, suc, _-_, _*_, _^_, Bool, cond, ℤ, pos, _+ℤ_, _*ℤ_}
+use Rattle.integers.specs.Names.{eqZ, turned, floorBy, lowest, digit, lowDigits}
 use Rattle.words.specs.declared.Outcome.{Outcome}
 use Rattle.words.specs.declared.RoundBit.{RoundBit}
 use Rattle.words.specs.declared.RoundBitWord.{RoundBitWord}
@@ -26,13 +27,12 @@ signChangeOf w = roundBitCheck w andThen roundBitDone (signChangeWord w)
 unfoldable pub cutBy : (ℤ → ℕ → ℕ) → RoundBitWord → ℕ → RoundBitWord
 -- "d = 0 returns the word."
 cutBy rule w zero = w
--- "For d >= 1 the answer is (floor(a / 2^d), ..), width n-d, unit e+d. The old round bit is
--- dropped."
+-- "For d >= 1 the answer is (floor(a / 2^d), ..), width n-d, unit e+d."
 cutBy rule w (suc k) =
     roundBitWord (floorBy (w .number .0) (suc k)) (rule (w .number .0) k)
     (narrower (w .format) (suc k))
 
--- "Cut by d": the new round bit is "digit d-1 of a"
+-- "Cut by d": the new round bit is "digit d-1 of a". "The old round bit is dropped."
 abbrev pub cutWord : RoundBitWord → ℕ → RoundBitWord
 cutWord w d = cutBy digit w d
 
@@ -65,14 +65,18 @@ cutAndRestAnswer a b = record { outcome = a .outcome; word = a .word; rest = b .
 abbrev pub cutAndRestOf : RoundBitWord → ℕ → CutAndRestAnswer
 cutAndRestOf w d = cutAndRestAnswer (cutCheck w d andThen roundBitDone (cutWord w d)) (restOf w d)
 
--- "the new round bit is (T or b) and h, where h is digit d-1 of a, b is digit d, and T is 1 if any
--- digit below d-1 is 1", for d = k + 1
-unfoldable pub evenRoundBit : ℤ → ℕ → ℕ
-evenRoundBit a k = bitAnd (bitOr (anyBelow a k) (digit a (suc k))) (digit a k)
+-- "where a + r lies exactly half a new unit above floor(a / 2^d) new units", for d = k + 1
+abbrev pub tied : ℕ → ℤ → ℕ → Bool
+tied r a k = eqZ (a +ℤ pos r) ((floorBy a (suc k) *ℤ pos (2 ^ suc k)) +ℤ pos (2 ^ k))
+
+-- there "the new round bit is the lowest digit of that floor; otherwise it is digit d-1 as in the
+-- plain cut."
+unfoldable pub evenRoundBit : ℕ → ℤ → ℕ → ℕ
+evenRoundBit r a k = cond (tied r a k) (lowest (floorBy a (suc k))) (digit a k)
 
 -- "Even cut by d: as the cut, except that for d >= 1" the new round bit is that
 abbrev pub evenCutWord : RoundBitWord → ℕ → RoundBitWord
-evenCutWord w d = cutBy evenRoundBit w d
+evenCutWord w d = cutBy (evenRoundBit (w .number .1)) w d
 
 abbrev pub evenCutAnswer : RoundBitAnswer → EvenCutAnswer
 evenCutAnswer a = record { outcome = a .outcome; word = a .word }

@@ -11,6 +11,7 @@ ghost use mathlib.Core.Path.{_≡_};
 ghost use Prim.Native.Nat.{_+_, _-_, _*_, _^_, _<_, _≤_};
 ghost use lib.IntN.{pos, _+ℤ_, _*ℤ_};
 ghost use lib.Signed.{mag, _≤ℤ_};
+ghost use Rattle.integers.specs.Numbers.{floorBy};
 ghost use Rattle.words.specs.Refusals.{blankFormat};
 ghost use Rattle.words.specs.Formats.{narrower, wider, answerCheck, formatAnswer};
 ghost use Rattle.words.specs.RoundBit.{roundBitCheck, roundBitRefused, roundBitDone};
@@ -203,33 +204,44 @@ pub fn cut_and_rest(w: RoundBitWord, d: u64) -> CutAndRestAnswer
     }
 }
 
-// Even cut: as the cut, but a tie goes to the even neighbour. The rule stands here alone.
-fn even_round_bit(a: i64, k: u64) -> u8
-    requires { ⌜ k + 1 < 2 ^ 64 ⌝ }
-    ensures { λ r. ⌜ r ≡ evenRoundBit a k ⌝ }
+// Even cut: as the cut, but by the value a + r, and a tie goes to the even neighbour.
+
+// Half a new unit above q new units, for a depth of k + 1.
+fn middle(q: i64, k: u64) -> i64
+    requires { ⌜ (k ≤ 60) × (mag q < 2 ^ (61 - k)) ⌝ }
+    ensures { λ r. ⌜ r ≡ (q *ℤ pos (2 ^ (k + 1))) +ℤ pos (2 ^ k) ⌝ }
 {
-    let below = integers::any_below(a, k);
-    let next = integers::digit(a, k + 1);
-    let high = integers::digit(a, k);
-    (below | next) & high
+    (q << (k + 1)) + (1 << k)
 }
 
-fn even_cut_round_bit(w: RoundBitWord, d: u64) -> u8
+// The rule stands here alone: up from the floor q past the middle, and in the middle where q is odd.
+fn even_round_bit(a: i64, round: u8, q: i64, k: u64) -> u8
+    requires { ⌜ (k ≤ 60) × (mag a < 2 ^ 62) × (round ≤ 1) × (q ≡ floorBy a (k + 1)) ⌝ }
+    ensures { λ r. ⌜ r ≡ evenRoundBit round a k ⌝ }
+{
+    let value = a + round as i64;
+    let odd = q & 1;
+    let even = 1 - odd;
+    if middle(q, k) + even <= value { 1 } else { 0 }
+}
+
+fn even_cut_round_bit(w: RoundBitWord, q: i64, d: u64) -> u8
+    requires { ⌜ (cutCheck w d ≡ Outcome.Done) × (q ≡ floorBy (w .number .0) d) ⌝ }
     ensures { λ r. ⌜ r ≡ evenCutWord w d .number .1 ⌝ }
 {
     if d == 0 {
         w.number.1
     } else {
-        even_round_bit(w.number.0, d - 1)
+        even_round_bit(w.number.0, w.number.1, q, d - 1)
     }
 }
 
 fn even_cut_word(w: RoundBitWord, d: u64, f: Format) -> RoundBitWord
-    requires { ⌜ f ≡ narrower (w .format) d ⌝ }
+    requires { ⌜ (cutCheck w d ≡ Outcome.Done) × (f ≡ narrower (w .format) d) ⌝ }
     ensures { λ r. ⌜ r ≡ evenCutWord w d ⌝ }
 {
     let number = integers::floor_by(w.number.0, d);
-    let even = even_cut_round_bit(w, d);
+    let even = even_cut_round_bit(w, number, d);
     RoundBitWord {
         number: RoundBit(number, even),
         format: f,

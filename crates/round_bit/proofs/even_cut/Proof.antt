@@ -13,7 +13,7 @@ even-cut-spec =
     (λ c. search needs)
     (λ c κs. search needs)
     (λ c. search needs)
-    (λ c κs. format-passed _ _ _ (c .before .before .cut-format .ensures) (c .enum-told .given .1) .1)
+    (λ c κs. format-passed _ _ _ (c .before .before .cut-format .ensures) (c .enum-told .given .1))
     (λ c κs. search needs)
     (λ c. search (refused-into evenCutAnswer roundBitRefused, format-told))
     (λ c. search (done-into evenCutAnswer roundBitRefused roundBitDone, format-told)))
