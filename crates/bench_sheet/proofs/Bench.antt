@@ -1,5 +1,6 @@
--- Document 01's bench sheet, P1 to P14: the table is right by the definitions, and whatever the
--- contracts of the code admit is what the table has. P7 names no word, and is shown of every one.
+-- Document 01's bench sheet, P1 to P14, and the examples of later requests: the tables are right by
+-- the definitions, and whatever the contracts of the code admit is what the tables have. P7 names no
+-- word, and is shown of every one.
 -- Assumes nothing.
 use Prim.Native.Nat.{ℕ}
 use mathlib.Core.Bool.{Bool, true, _&&_}
@@ -46,17 +47,19 @@ use Rattle.bench_sheet.specs.Bench.{flatOf, flatCut, flatEvenCut, flatWo
 use Rattle.bench_sheet.specs.Bench.{Check, sum, difference, product, cut, rest, evenCut}
 use Rattle.bench_sheet.specs.Bench.{widen, up, even, sumUp, sumEven, halfProduct}
 use Rattle.bench_sheet.specs.Bench.{worth, fits, text, run, ran, right, every, bench}
+use Rattle.bench_sheet.specs.Bench.{requested}
 use Rattle.bench_sheet.specs.Met.{Answers, Runs, Met, Each, EveryCut}
 
--- there is a row for each of P1 to P14, and every check of every row holds
+-- there is a row for each of P1 to P14, and every check of every row holds; so also of the requests
 bench-holds : (length bench ≡ 14) × (every (every right) bench ≡ true)
+    × (every (every right) requested ≡ true)
 unfolding fitsWidth floorBy lowest cleared digit digitsBelow anyBelow lowDigits value formatCheck
     wordCheck narrowerCheck answerCheck plainCheck roundBitCheck roundBitFitted halfUnitCheck
     halfUnitFitted lentAfter writeAnswer signChangeWord cutBy restWord evenRoundBit widenWord
     sumWord magnitudeProduct multiplied productWord fromPlainUpWord evenFloor fromPlainEvenWord
     sumUpWord sumEvenWord halfMultiplied halfProductWord signedDigit byteOf byteAt textOf
     writeCheck writeOf bufferOf depthCheck openAnswer openOf stepped putCheck stepOf
-bench-holds = (refl, refl)
+bench-holds = (refl, refl, refl)
 
 -- ---- from the definitions to the contracts: a contract says that the answer is the definition's
 three-hold : (a b c : Bool) → (a && b && c) ≡ true → (a ≡ true) × (b ≡ true) × (c ≡ true)
@@ -137,6 +140,9 @@ every-each test each (x ∷ more) h =
 -- every check of every row, of the code: whatever meets the contracts is what the table has
 bench-met : Each (Each Met) bench
 bench-met = every-each (every right) (every-each right right-met) bench (bench-holds .1)
+
+requested-met : Each (Each Met) requested
+requested-met = every-each (every right) (every-each right right-met) requested (bench-holds .2)
 
 -- ---- P7 of every word: a right word's cut is refused as its format is
 cut-outcome : (w : RoundBitWord) (d : ℕ) {f : Format} →

@@ -1,8 +1,8 @@
--- Document 01's bench sheet, P1 to P14: one table, and what it is for the table to be right. A line
--- of the sheet is a row; each of its checks compares an entire answer with what the sheet says: the
--- number of the outcome, number, round bit, width and unit, the blank word where it is refused.
--- Widths and units that the sheet leaves to the rules are written as the rules have them, n - d and
--- e + d.
+-- Document 01's bench sheet, P1 to P14: one table, and what it is for the table to be right; with
+-- it a table of the examples that came with later requests. A line of the sheet is a row; each of
+-- its checks compares an entire answer with what the sheet says: the number of the outcome, number,
+-- round bit, width and unit, the blank word where it is refused. Widths and units that the sheet
+-- leaves to the rules are written as the rules have them, n - d and e + d.
 use Rattle.integers.specs.Names.{ℕ, _+_, _-_, Bool, true, _&&_, List, [], _∷_, _++_, length}
 use Rattle.integers.specs.Names.{eqb, ℤ, pos, negsuc, _*ℤ_, eqZ, fitsWidth, sameBytes}
 use lib.ListN.{replicate}
@@ -176,5 +176,18 @@ bench =
     ∷ called (put (roundBitAt 8 (pos 0) 1)) none (done 8 (negsuc 1) 1)
     ∷ called handOut (flat 0 (negsuc 0) 1 (8 - 2) (pos 2)) (done 8 (negsuc 1) 1)
     ∷ [])
+    ∷ [])
+    ∷ []
+
+-- the examples of the requests that came later, document 02, of operations that the sheet has
+abbrev pub requested : List (List Check)
+requested =
+    -- Ask 2. "So (1,1) cut by 1 gives (0,1)"; with r = 1 a lower part of 0 is a tie, from which
+    -- (0,1) goes down to 0 and (2,1), worth 3, up to 2 units of the new size, which are 4.
+    (evenCut (five (pos 1) 1) 1 (flat 0 (pos 0) 1 (5 - 1) (pos 1))
+    ∷ evenCut (five (pos 0) 1) 1 (flat 0 (pos 0) 0 (5 - 1) (pos 1))
+    ∷ evenCut (five (pos 2) 1) 1 (flat 0 (pos 1) 1 (5 - 1) (pos 1))
+    ∷ worth (five (pos 2) 1) (pos 3)
+    ∷ worth (evenCutOf (five (pos 2) 1) 1 .word) (pos 2)
     ∷ [])
     ∷ []

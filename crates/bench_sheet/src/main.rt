@@ -1,9 +1,10 @@
-// Runs every example of document 01's bench sheet through the code and prints what it answers.
+// Runs every example of document 01's bench sheet, and those of later requests that are about the same operations, through
+// the code and prints what it answers.
 //
 // A line is the example's name, the number of the outcome, and then the word: number, round bit, width
 // and unit. A running sum's line ends with what is kept; a file's line has kind, width, unit and count.
-// The expected output was written by hand from document 01. The table of P1 to P14 is in specs/Bench.antt,
-// what it says of the code in specs/Met.antt, and the proof of both in proofs/Bench.antt.
+// The expected output was written by hand from the documents. The tables are in specs/Bench.antt, what they say of the code
+// in specs/Met.antt, and the proof of both in proofs/Bench.antt.
 use libc::STDOUT_FILENO;
 use running_sum::RunningSum;
 use words::Format;
@@ -303,6 +304,12 @@ fn print_reading(name: &[u8], text: &[u8]) {
     print_round_bit(name, o, a.word);
 }
 
+fn requested() {
+    print_even_cut(b"Ask 2", round_bit(5, 1, 1), 1);
+    print_even_cut(b"Ask 2", round_bit(5, 0, 1), 1);
+    print_even_cut(b"Ask 2", round_bit(5, 2, 1), 1);
+}
+
 fn main() {
     sums();
     cuts();
@@ -313,4 +320,5 @@ fn main() {
     files();
     print_reading(b"+0+", b"+0+");
     print_reading(b"+-", b"+-");
+    requested();
 }
