@@ -1,5 +1,5 @@
 /* Every function of frostuldi.h called once from C, and one refusal of each type of answer. What each must answer was
- * worked out by hand from document 01. No right answer is all zeros: so a function that answers nothing is seen. */
+ * worked out by hand from the documents. No right answer is all zeros: so a function that answers nothing is seen. */
 #include "frostuldi.h"
 
 #include <stdio.h>
@@ -58,7 +58,7 @@ static void round_bit_words(void)
     HOLDS(round_bit(frost_round_bit_sign_change(rb(5, 1, 5, -3)), rb(-6, 0, 5, -3), 0));
     HOLDS(round_bit(frost_round_bit_cut(rb(-718, 0, 11, 3), 2), rb(-180, 1, 9, 5), 0)); /* P6 */
     HOLDS(round_bit(frost_round_bit_rest(rb(-718, 1, 11, 3), 2), rb(-2, 1, 11, 3), 0)); /* P6, with round bit 1 */
-    HOLDS(round_bit(frost_round_bit_even_cut(rb(10, 0, 5, 1), 2), rb(2, 0, 3, 3), 0)); /* the cut is (2,1) */
+    HOLDS(round_bit(frost_round_bit_even_cut(rb(2, 1, 5, 1), 1), rb(1, 1, 4, 2), 0)); /* the cut is (1,0) */
     HOLDS(round_bit(frost_round_bit_widen(rb(5, 1, 4, 3), 2), rb(23, 1, 6, 1), 0)); /* P8 */
     HOLDS(round_bit(frost_round_bit_sum(rb(3, 1, 5, -2), rb(4, 1, 5, -2)), rb(8, 1, 5, -2), 0)); /* P1 */
     HOLDS(round_bit(frost_round_bit_sum(rb(15, 0, 5, 0), rb(1, 0, 5, 0)), rb(0, 0, 2, 0), 8)); /* P3 */

@@ -20,7 +20,7 @@ extern "C" {
 #endif
 
 /* The version that this header declares, as 10000 * major + 100 * minor + patch. frost_version() tells the archive's. */
-#define FROST_VERSION 10100
+#define FROST_VERSION 10200
 
 /* What `refusal` says. frost_refusal_text() has each in words. */
 enum frost_refusal {
@@ -118,7 +118,8 @@ static inline const char *frost_refusal_text(uint32_t refusal)
     }
 }
 
-/* Round-bit words. All refuse 1, 2, 3 of each operand first; then as said. */
+/* Round-bit words. All refuse 1, 2, 3 of each operand first; then as said. A cut drops the old round bit; an even cut goes
+ * by the value, number + round, to the nearest count of new units, and halfway between two of them to the even one. */
 frost_round_bit_answer frost_round_bit_sign_change(frost_round_bit w);
 frost_round_bit_answer frost_round_bit_cut(frost_round_bit w, uint64_t depth);      /* 5, 7 */
 frost_round_bit_answer frost_round_bit_rest(frost_round_bit w, uint64_t depth);     /* 5, 7 */

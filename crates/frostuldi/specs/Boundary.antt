@@ -30,7 +30,7 @@ use Rattle.frostuldi.specs.declared.FrostWritten.{FrostWritten}
 
 -- which library this is: 10000 * major + 100 * minor + patch
 abbrev pub version : ℕ
-version = 10100
+version = 10200
 
 -- what comes in
 abbrev pub plainIn : FrostPlain → PlainWord

@@ -565,7 +565,7 @@ pub extern "C" fn frost_running_sum_empty(s: FrostRunningSum) -> FrostSumAnswer
 pub extern "C" fn frost_version() -> u32
     ensures { λ r. ⌜ r ≡ version ⌝ }
 {
-    10100
+    10200
 }
 
 // Digit texts, block files and listings.
