@@ -136,7 +136,7 @@ fn edge_numbers(width: u32) -> Vec<i64> {
 }
 
 /// 257 and 2^32 + 1 look like 1 to a program that drops their high digits.
-fn edge_depths(width: u32) -> Vec<u64> {
+pub fn edge_depths(width: u32) -> Vec<u64> {
     let n = width as u64;
     let most = MOST_WIDTH as u64;
     let mut depths = vec![0, 1, 2, n, most - 1, most, most + 1, 257];

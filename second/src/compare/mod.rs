@@ -15,6 +15,9 @@ mod call;
 mod case;
 mod edge_texts;
 mod edges;
+mod even_cuts;
+mod even_laws;
+mod even_sheet;
 mod exhaustive;
 mod fall;
 mod files;
@@ -63,6 +66,7 @@ fn all_jobs(seed: u64, program: &str) -> Vec<Job> {
     jobs.extend(edge_texts::jobs());
     jobs.extend(huge::jobs());
     jobs.extend(random_cases::jobs(seed));
+    jobs.extend(even_cuts::jobs(seed));
     jobs.extend(sums::jobs(seed));
     jobs.extend(bank::jobs(seed));
     jobs.extend(files::jobs(seed));

@@ -159,6 +159,9 @@ pub const OPERATIONS: &[Operation] = &[
         |c| (OfModel::of(c.sum())), (c.sum())),
 ];
 
+pub const SIGN_CHANGE: usize = row_of("frost_round_bit_sign_change");
+pub const CUT: usize = row_of("frost_round_bit_cut");
+pub const EVEN_CUT: usize = row_of("frost_round_bit_even_cut");
 pub const OPEN: usize = row_of("frost_running_sum_open");
 pub const PUT: usize = row_of("frost_running_sum_put");
 pub const HAND_OUT: usize = row_of("frost_running_sum_hand_out");

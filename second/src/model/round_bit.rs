@@ -1,5 +1,6 @@
-//! Document 01, section "Round-bit words" (all of it but the digit text).
-//! Written from document 01 alone; it shares nothing with crates/.
+//! Document 01, section "Round-bit words" (all of it but the digit text), with
+//! the even cut as document 02, Ask 2 has it.
+//! Written from documents 01 and 02 alone; it shares nothing with crates/.
 
 use super::causes::*;
 use super::digits::*;
@@ -60,15 +61,21 @@ pub fn rest(word: RoundBit, d: i128) -> Answer<RoundBit> {
     })
 }
 
+/// Ask 2: the rule goes by the value a + r, not by the digits of a alone.
 pub fn even_cut(word: RoundBit, d: i128) -> Answer<RoundBit> {
     let answer = cut(word, d);
     if answer.refusal != DONE || d == 0 {
         return answer;
     }
-    let h = digit(word.number, d - 1) == 1;
-    let b = digit(word.number, d) == 1;
-    let t = (0..d - 1).any(|i| digit(word.number, i) == 1);
-    let round = ((t || b) && h) as i128;
+    // A tie: half a new unit above floor(a / 2^d) new units, in old units.
+    let new_units = floor(word.number, d);
+    let half_above = new_units * power(d) + power(d - 1);
+    let is_tie = word.number + word.round == half_above;
+    let round = if is_tie {
+        digit(new_units, 0)
+    } else {
+        digit(word.number, d - 1)
+    };
     Answer::done(RoundBit {
         round,
         ..answer.word
