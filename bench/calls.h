@@ -10,6 +10,7 @@
 #define DECLARE(who)                                                                                                  \
     frost_round_bit_answer JOIN(who, round_bit_sum)(frost_round_bit x, frost_round_bit y);                            \
     frost_round_bit_answer JOIN(who, round_bit_cut)(frost_round_bit w, uint64_t depth);                               \
+    frost_round_bit_answer JOIN(who, round_bit_even_cut)(frost_round_bit w, uint64_t depth);                          \
     frost_round_bit_answer JOIN(who, round_bit_product)(frost_round_bit x, frost_round_bit y);                        \
     frost_sum_answer JOIN(who, running_sum_open)(uint32_t width, int32_t unit, uint64_t depth);                       \
     frost_sum_answer JOIN(who, running_sum_put)(frost_running_sum s, frost_round_bit w);                              \

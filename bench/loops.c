@@ -27,6 +27,12 @@ static void cut_by_depth(const struct work *w, struct answers *a)
         a->words[i] = CALL(round_bit_cut)(w->first[i], w->depths[i]);
 }
 
+static void even_cut_by_depth(const struct work *w, struct answers *a)
+{
+    for (int i = 0; i < w->words; i++)
+        a->words[i] = CALL(round_bit_even_cut)(w->first[i], w->depths[i]);
+}
+
 static void product(const struct work *w, struct answers *a)
 {
     for (int i = 0; i < w->words; i++)
@@ -89,6 +95,7 @@ static void write_listing_in_little_room(const struct work *w, struct answers *a
 loop *const NAME[LOOPS] = {
     [SUM] = sum,
     [CUT] = cut_by_depth,
+    [EVEN_CUT] = even_cut_by_depth,
     [PRODUCT] = product,
     [PUT_HAND_OUT] = put_hand_out,
     [BANK] = channel_output,

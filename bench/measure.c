@@ -56,6 +56,7 @@ static const struct row {
 } rows[] = {
     {"sum", SUM, 1, 50},
     {"cut", CUT, 1, 50},
+    {"even-cut", EVEN_CUT, 1, 50},
     {"product", PRODUCT, 1, 50},
     {"put-hand-out", PUT_HAND_OUT, 1, 20},
     {"bank", BANK, 1, 20},

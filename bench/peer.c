@@ -42,6 +42,28 @@ PEER frost_round_bit_answer peer_round_bit_cut(frost_round_bit w, uint64_t depth
     return (frost_round_bit_answer){cut(w, depth), DONE};
 }
 
+/* A cut whose round bit goes by the value: half a new unit above the floor is a tie, and goes to the even neighbour. */
+static inline frost_round_bit even_cut(frost_round_bit w, uint64_t depth)
+{
+    frost_round_bit answer = cut(w, depth);
+    if (depth == 0)
+        return answer;
+    int64_t above = w.number + w.round - (int64_t)((uint64_t)answer.number << depth);
+    if (above == (int64_t)1 << (depth - 1))
+        answer.round = answer.number & 1;
+    return answer;
+}
+
+PEER frost_round_bit_answer peer_round_bit_even_cut(frost_round_bit w, uint64_t depth)
+{
+    uint32_t cause = word_cause(w);
+    if (cause == DONE)
+        cause = cut_cause(w, depth);
+    if (cause != DONE)
+        return refused(cause);
+    return (frost_round_bit_answer){even_cut(w, depth), DONE};
+}
+
 static inline frost_round_bit sign_changed(frost_round_bit w)
 {
     w.number = -1 - w.number;

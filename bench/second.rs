@@ -25,6 +25,11 @@ pub extern "C" fn second_round_bit_cut(w: FrostRoundBit, depth: u64) -> FrostRou
 }
 
 #[no_mangle]
+pub extern "C" fn second_round_bit_even_cut(w: FrostRoundBit, depth: u64) -> FrostRoundBitAnswer {
+    OfModel::of(round_bit::even_cut(w.model(), depth as i128))
+}
+
+#[no_mangle]
 pub extern "C" fn second_round_bit_product(
     x: FrostRoundBit,
     y: FrostRoundBit,

@@ -5,6 +5,7 @@ import sys
 ROWS = {
     "sum": "sum",
     "cut": "cut",
+    "even-cut": "even cut",
     "product": "product",
     "put-hand-out": "put + hand-out",
     "bank": "bank, one output",
@@ -20,6 +21,7 @@ GROWING = {"read": "file read", "write": "file write", "listing": "listing"}
 
 # The most that a ratio may be.
 AIMS = {
+    ("even-cut", "call"): 1.2,
     ("put-hand-out", "call"): 1.2,
     ("put-hand-out", "inlined"): 4,
     ("put-hand-out", "sc_fix_fast"): 1 / 20,

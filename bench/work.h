@@ -53,7 +53,20 @@ struct answers {
 };
 
 /* The last is only checked, on odd work. */
-enum { SUM, CUT, PRODUCT, PUT_HAND_OUT, BANK, READ, WRITE, LISTING, LISTING_IN_LITTLE_ROOM, EACH_SUM, LOOPS };
+enum {
+    SUM,
+    CUT,
+    EVEN_CUT,
+    PRODUCT,
+    PUT_HAND_OUT,
+    BANK,
+    READ,
+    WRITE,
+    LISTING,
+    LISTING_IN_LITTLE_ROOM,
+    EACH_SUM,
+    LOOPS
+};
 
 typedef void loop(const struct work *w, struct answers *a);
 
