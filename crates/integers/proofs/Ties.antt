@@ -1,6 +1,6 @@
 -- A number with a round bit in the middle between two counts of new units, by its digits. Assumes nothing.
 -- Proved here: `below-alike`, `alike-below`, `middle-digits`, `digits-middle`.
-use mathlib.Core.Path.{_≡_, refl, sym, ap, _∙_}
+use mathlib.Core.Path.{_≡_, refl, ap, _∙_}
 use mathlib.Core.Bool.{Bool, true, false}
 use Prim.Native.Nat.{ℕ, zero, suc, _+_, _-_, _*_, _^_, _<_, _≤_}
 use native.Mathlib.Omega.{arith}

@@ -1,8 +1,6 @@
 use Prim.Native.Nat.{ℕ, _+_, _-_, _^_, _<_, _≤_}
 use native.Mathlib.Omega.{arith}
-use native.Mathlib.Nat.{lt-of-lt-of-le}
 use mathlib.Core.Path.{_≡_, ap, _∙_}
-use lib.Pow.{pow-mono}
 use lib.Signed.{mag}
 use mir.Syntax.{w64}
 use mir.Val.{SFits}
@@ -10,6 +8,7 @@ use mir.Facts.{toZ-ofZ}
 use Rattle.integers.specs.Numbers.{floorBy}
 use Rattle.words.specs.declared.Outcome.the-variants.{Done}
 use Rattle.words.specs.declared.RoundBitWord.{RoundBitWord}
+use Rattle.words.proofs.Laws.{small}
 use Rattle.words.proofs.Formats.{digits-left}
 use Rattle.round_bit.specs.Cuts.{cutBy, cutCheck, evenRoundBit}
 use Rattle.round_bit.proofs.Checks.{cut-bit}
@@ -19,13 +18,7 @@ use Rattle.round_bit.proofs.even_cut_round_bit.Statement.{statement}
 use Rattle.round_bit.proofs.even_cut_round_bit.Tie as tie
 
 room : (w : RoundBitWord) (d : ℕ) → cutCheck w d ≡ Done → (d - 1 ≤ 60) × (mag (w .number .0) < 2 ^ 62) × (w .number .1 ≤ 1)
-room w d e =
-    let t = cut-tells w d e in
-    let g = t .0 in (
-      omega (arith, digits-left (w .format) d (t .1), g .format .wide),
-      lt-of-lt-of-le (g .size) (pow-mono {i = w .format .width - 1} {j = 62} (omega (arith, g .format .wide))),
-      g .bit,
-    )
+room w d e = let t = cut-tells w d e in (omega (arith, digits-left (w .format) d (t .1), t .0 .format .wide), small (t .0), t .0 .bit)
 
 one-more : (d : ℕ) → (d ≡ 0 → ⊥) → d ≡ d - 1 + 1
 one-more d h = omega arith
