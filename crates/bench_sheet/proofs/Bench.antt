@@ -50,7 +50,8 @@ use Rattle.bench_sheet.specs.Bench.{worth, fits, text, run, ran, right, 
 use Rattle.bench_sheet.specs.Bench.{requested}
 use Rattle.bench_sheet.specs.Met.{Answers, Runs, Met, Each, EveryCut}
 
--- there is a row for each of P1 to P14, and every check of every row holds; so also of the requests
+-- there is a row for each of P1 to P14, and every check of every row holds; so does every check of
+-- the later examples
 bench-holds : (length bench ≡ 14) × (every (every right) bench ≡ true)
     × (every (every right) requested ≡ true)
 unfolding fitsWidth floorBy lowest cleared digit digitsBelow anyBelow lowDigits value formatCheck

@@ -182,8 +182,8 @@ bench =
 -- the examples of the requests that came later, document 02, of operations that the sheet has
 abbrev pub requested : List (List Check)
 requested =
-    -- Ask 2. "So (1,1) cut by 1 gives (0,1)"; with r = 1 a lower part of 0 is a tie, from which
-    -- (0,1) goes down to 0 and (2,1), worth 3, up to 2 units of the new size, which are 4.
+    -- Ask 2. "So (1,1) cut by 1 gives (0,1)"; by 1, with r = 1, a lower part of 0 is a tie, from
+    -- which (0,1) goes down to 0 and (2,1), worth 3, up to 2 units of the new size, which are 4.
     (evenCut (five (pos 1) 1) 1 (flat 0 (pos 0) 1 (5 - 1) (pos 1))
     ∷ evenCut (five (pos 0) 1) 1 (flat 0 (pos 0) 0 (5 - 1) (pos 1))
     ∷ evenCut (five (pos 2) 1) 1 (flat 0 (pos 1) 1 (5 - 1) (pos 1))

@@ -1,10 +1,10 @@
-// Runs every example of document 01's bench sheet, and those of later requests that are about the same operations, through
-// the code and prints what it answers.
+// Runs every example of document 01's bench sheet, and those of later requests that are about the same
+// operations, through the code and prints what it answers.
 //
 // A line is the example's name, the number of the outcome, and then the word: number, round bit, width
 // and unit. A running sum's line ends with what is kept; a file's line has kind, width, unit and count.
-// The expected output was written by hand from the documents. The tables are in specs/Bench.antt, what they say of the code
-// in specs/Met.antt, and the proof of both in proofs/Bench.antt.
+// The expected output was written by hand from the documents. The tables are in specs/Bench.antt, what they
+// say of the code in specs/Met.antt, and the proof of both in proofs/Bench.antt.
 use libc::STDOUT_FILENO;
 use running_sum::RunningSum;
 use words::Format;

@@ -1,5 +1,5 @@
 -- A number with a round bit in the middle between two counts of new units, by its digits. Assumes nothing.
--- Proved here: `below-alike`, `alike-below`, `middle-digits`, `digits-middle`.
+-- Proved here: `middle-digits`, `digits-middle`.
 use mathlib.Core.Path.{_≡_, refl, ap, _∙_}
 use mathlib.Core.Bool.{Bool, true, false}
 use Prim.Native.Nat.{ℕ, zero, suc, _+_, _-_, _*_, _^_, _<_, _≤_}
@@ -14,7 +14,7 @@ use Rattle.integers.proofs.LowDigits.{below-more, below-range}
 use Rattle.integers.proofs.Even.{above}
 
 -- ---- the digits below k are all r where, at their weights, they are r * (2 ^ k - 1), and only there
-pub below-alike : (r : ℕ) (a : ℤ) (k : ℕ) → ((i : ℕ) → i < k → digit a i ≡ r) → digitsBelow a k + r ≡ r * 2 ^ k
+below-alike : (r : ℕ) (a : ℤ) (k : ℕ) → ((i : ℕ) → i < k → digit a i ≡ r) → digitsBelow a k + r ≡ r * 2 ^ k
 unfolding digitsBelow
 below-alike r a zero all = omega arith
 below-alike r a (suc k) all =
@@ -22,7 +22,7 @@ below-alike r a (suc k) all =
     let high = all k (omega arith) in
     omega (arith, low, ap (λ (d : ℕ). d * 2 ^ k) high, ap (λ (p : ℕ). r * p) (pow-succ' 2 k))
 
-pub alike-below : (r : ℕ) (a : ℤ) (k : ℕ) → r ≤ 1 → digitsBelow a k + r ≡ r * 2 ^ k → (i : ℕ) → i < k → digit a i ≡ r
+alike-below : (r : ℕ) (a : ℤ) (k : ℕ) → r ≤ 1 → digitsBelow a k + r ≡ r * 2 ^ k → (i : ℕ) → i < k → digit a i ≡ r
 alike-below r a zero h e i l = absurd (omega arith)
 alike-below r a (suc k) h e i l = go (ltb i k) refl (alike-below r a k h (split .1) i)
   where

@@ -1,9 +1,12 @@
 -- Laws of the product that the library of ℤ lacks. Assumes nothing.
--- Proved here: `plus-times`, `times-assoc`, `times-plus`, `neg-times`, `times-neg`, `near-twice`, `one-near`.
-use mathlib.Core.Path.{_≡_, ap}
+-- Proved here: `plus-times`, `times-assoc`, `times-plus`, `neg-times`, `times-neg`, `near-twice`, `others-farther`.
+use mathlib.Core.Path.{_≡_, refl, ap}
+use mathlib.Core.Bool.{Bool, true, false}
 use Prim.Native.Nat.{ℕ, _+_, _*_, _<_, _≤_}
 use native.Mathlib.Nat.{lt-of-mul-lt-mul-right}
+use lib.Dec.{ltb}
 use lib.IntN.{ℤ, pos, negℤ, natAbs, _+ℤ_, _-ℤ_, _*ℤ_, *ℤ-comm}
+use borrow.Author.Tests.{ltb-true, ltb-false}
 use Rattle.integers.proofs.Kit.{up, down, ints, plus-law, neg-law, minus-law, times-law, abs-range, by-abs, abs-law}
 
 pub plus-times : (a b c : ℤ) → (a +ℤ b) *ℤ c ≡ (a *ℤ c) +ℤ (b *ℤ c)
@@ -59,8 +62,8 @@ near-twice x v e q p h =
       abs-range q ((x *ℤ pos q) -ℤ v) h,
     ))
 
--- two counts of p that are together less than p away from v are one
-pub one-near : (x y v : ℤ) (p : ℕ) → natAbs ((x *ℤ pos p) -ℤ v) + natAbs ((y *ℤ pos p) -ℤ v) < p → x ≡ y
+-- ---- two counts of p that are together less than p away from v are one
+one-near : (x y v : ℤ) (p : ℕ) → natAbs ((x *ℤ pos p) -ℤ v) + natAbs ((y *ℤ pos p) -ℤ v) < p → x ≡ y
 one-near x y v p h = omega (ints, side x y h, side y x (omega ints))
   where
     side : (x y : ℤ) → natAbs ((x *ℤ pos p) -ℤ v) + natAbs ((y *ℤ pos p) -ℤ v) < p → up x + down y < up y + 1 + down x
@@ -78,3 +81,21 @@ one-near x y v p h = omega (ints, side x y h, side y x (omega ints))
           times-law x (pos p),
           times-law y (pos p),
         ))
+
+-- so of all even counts of p the one that is less than p away from v is the nearest
+twice : (x : ℤ) (p : ℕ) → (pos 2 *ℤ x) *ℤ pos p ≡ x *ℤ pos (2 * p)
+twice x p = rw (*ℤ-comm (pos 2) x) (times-assoc x (pos 2) (pos p))
+
+pub others-farther : (v x y : ℤ) (p : ℕ) → natAbs (((pos 2 *ℤ x) *ℤ pos p) -ℤ v) < p → (y ≡ x → ⊥) →
+    natAbs (((pos 2 *ℤ x) *ℤ pos p) -ℤ v) < natAbs (((pos 2 *ℤ y) *ℤ pos p) -ℤ v)
+others-farther v x y p h other = go (ltb (far x) (far y)) refl
+  where
+    far : ℤ → ℕ
+    far z = natAbs (((pos 2 *ℤ z) *ℤ pos p) -ℤ v)
+
+    go : (t : Bool) → ltb (far x) (far y) ≡ t → far x < far y
+    go true f = ltb-true (far x) (far y) f
+    go false f =
+        let no-farther = ltb-false (far x) (far y) f in
+        let both : far y + far x < 2 * p = omega ints in
+        absurd (other (one-near y x v (2 * p) (rw (twice y p, twice x p) at both)))

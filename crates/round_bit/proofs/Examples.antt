@@ -1,4 +1,4 @@
--- Examples of round-bit words that are not in the bench sheet's tables, document 01's and of the even cut, computed from the definitions.
+-- Examples of round-bit words that are not in the bench sheet's tables, document 01's and the even cut's, computed from the definitions.
 use mathlib.Core.Path.{_≡_, refl}
 use lib.IntN.{pos, negsuc}
 use Rattle.integers.specs.Numbers.{fitsWidth, floorBy, lowest, digit, anyBelow}

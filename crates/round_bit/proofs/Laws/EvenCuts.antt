@@ -6,13 +6,12 @@ use Prim.Native.Nat.{ℕ, zero, suc, _+_, _-_, _*_, _^_, _<_, _≤_}
 use native.Mathlib.Nat.{pow-succ'}
 use native.Mathlib.Omega.{arith}
 use mathlib.Core.Path.{_≡_, refl, sym, ap, _∙_}
-use mathlib.Core.Bool.{Bool, true, false, cond}
-use lib.Dec.{ltb}
-use lib.IntN.{ℤ, pos, natAbs, _+ℤ_, _-ℤ_, _*ℤ_, *ℤ-comm}
-use borrow.Author.Tests.{eqb-true, eqb-false, eq-eqb, ltb-true, ltb-false}
+use mathlib.Core.Bool.{true, false, cond}
+use lib.IntN.{ℤ, pos, natAbs, _+ℤ_, _-ℤ_, _*ℤ_}
+use borrow.Author.Tests.{eqb-true, eqb-false, eq-eqb}
 use Rattle.integers.specs.Numbers.{turned, floorBy, lowest, digit, digitsBelow}
 use Rattle.integers.proofs.Kit.{minus-law, times-law, abs-law, apart, abs-apart, one-zero}
-use Rattle.integers.proofs.Times.{times-assoc, one-near}
+use Rattle.integers.proofs.Times.{others-farther}
 use Rattle.integers.proofs.Floor.{floor-turned}
 use Rattle.integers.proofs.Digits.{lowest-evened}
 use Rattle.integers.proofs.LowDigits.{below-law}
@@ -103,24 +102,6 @@ half-moved : (s p m : ℕ) → s ≤ 1 → m ≡ p → 2 * apart (s * (2 * p)) m
 half-moved zero p m h e = omega arith
 half-moved (suc zero) p m h e = omega arith
 half-moved (suc (suc s)) p m h e = absurd (omega arith)
-
--- a count of new units, in half old units; less than half a new unit away from v there is no other
-twice : (x : ℤ) (p : ℕ) → (pos 2 *ℤ x) *ℤ pos p ≡ x *ℤ pos (2 * p)
-twice x p = rw (*ℤ-comm (pos 2) x) (times-assoc x (pos 2) (pos p))
-
-others-farther : (v x y : ℤ) (p : ℕ) → natAbs (((pos 2 *ℤ x) *ℤ pos p) -ℤ v) < p → (y ≡ x → ⊥) →
-    natAbs (((pos 2 *ℤ x) *ℤ pos p) -ℤ v) < natAbs (((pos 2 *ℤ y) *ℤ pos p) -ℤ v)
-others-farther v x y p h other = go (ltb (far x) (far y)) refl
-  where
-    far : ℤ → ℕ
-    far z = natAbs (((pos 2 *ℤ z) *ℤ pos p) -ℤ v)
-
-    go : (t : Bool) → ltb (far x) (far y) ≡ t → far x < far y
-    go true f = ltb-true (far x) (far y) f
-    go false f =
-        let no-farther = ltb-false (far x) (far y) f in
-        let both : far y + far x < 2 * p = omega arith in
-        absurd (other (one-near y x v (2 * p) (rw (twice y p, twice x p) at both)))
 
 module _ (w : RoundBitWord) (k : ℕ) (e : evenCutOf w (suc k) .outcome ≡ Done) where
   -- ---- at a tie it moves by just as much, and the new count of units is even
