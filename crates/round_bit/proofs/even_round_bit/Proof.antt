@@ -6,13 +6,13 @@ use mathlib.Core.Path.{_≡_, sym, ap, _∙_}
 use mathlib.Core.Bool.{Bool, true, false, cond}
 use lib.Bits.{bitAnd}
 use lib.Pow.{pow-mono}
-use lib.IntN.{ℤ, pos, _+ℤ_, _-ℤ_, _*ℤ_}
+use lib.IntN.{ℤ, pos, natAbs, _+ℤ_, _-ℤ_, _*ℤ_}
 use lib.Signed.{mag, leZ}
 use mir.Syntax.{w64}
 use mir.Val.{SFits, toZ, ofZ}
 use mir.Facts.{toZ-ofZ, toZ-pos}
 use Rattle.integers.specs.Numbers.{floorBy, lowest, digit}
-use Rattle.integers.proofs.Kit.{ints, size-range, plus-law, minus-law}
+use Rattle.integers.proofs.Kit.{ints, size-range, abs-range, by-abs, plus-law, minus-law}
 use Rattle.integers.proofs.Floor.{floor-range}
 use Rattle.integers.proofs.Digits.{digit-le}
 use Rattle.integers.proofs.LowDigits.{below-range}
@@ -31,6 +31,16 @@ floor-small : {q : ℤ} (a : ℤ) (k : ℕ) → k ≤ 60 → mag a < 2 ^ 62 → 
 floor-small a k l h e =
     let back : 61 - k + suc k ≡ 62 = omega arith in
     rw e (floor-range a (61 - k) (suc k) (rw back h))
+
+one : 1 ≤ 1
+one = omega arith
+
+-- a bit less a bit
+bits-small : (x y : ℕ) → x ≤ 1 → y ≤ 1 → natAbs (pos x -ℤ pos y) ≤ 1
+bits-small x y h l = by-abs 1 (pos x -ℤ pos y) (omega (arith, minus-law (pos x) (pos y)))
+
+small-fits : (x : ℤ) → natAbs x ≤ 1 → SFits w64 x
+small-fits x h = omega (ints, abs-range 1 x h)
 
 module _ (s : tie.Start) where
   abbrev a : ℤ
@@ -59,11 +69,11 @@ module _ (s : tie.Start) where
   odd = lowest-machine (s .args .q) (s .fits .q) ∙ ap (λ (z : ℤ). pos (lowest z)) floor
 
   even-fits : SFits w64 even
-  even-fits = omega (ints, minus-law (pos 1) (pos (digit a (suc k))), digit-le a (suc k))
+  even-fits = small-fits even (bits-small 1 (digit a (suc k)) one (digit-le a (suc k)))
 
-  -- the middle lies within half a new unit of a + r, and so inside an i64
-  up-fits : SFits w64 (middle a k +ℤ even)
-  up-fits =
+  -- the middle lies within half a new unit of a + r, and so inside an i64, also with a small number more
+  up-fits : (x : ℤ) → natAbs x ≤ 1 → SFits w64 (middle a k +ℤ x)
+  up-fits x h =
       let half : 2 ^ k ≤ 2 ^ 60 = pow-mono {i = k} {j = 60} (s .pre .0) in
       omega (
         ints,
@@ -74,9 +84,8 @@ module _ (s : tie.Start) where
         above-law r a k,
         below-range a (suc k),
         pow-succ' 2 k,
-        plus-law (middle a k) even,
-        minus-law (pos 1) (pos (digit a (suc k))),
-        digit-le a (suc k),
+        plus-law (middle a k) x,
+        abs-range 1 x h,
       )
 
 module _ (c : tie.After-middle) where
@@ -90,13 +99,15 @@ add-value : tie.Need-add-value
 add-value c = rw (toZ-ofZ (c .fits .a), bit c) (value-fits c)
 
 sub-even : tie.Need-sub-even
-sub-even c = rw (odd c) (even-fits c)
+sub-even c = rw (odd c) (search (small-fits, bits-small, digit-le (a c) (suc (k c)), one))
 
 middle-requires : tie.Need-middle-requires
 middle-requires c κs = (c .pre .0, rw (toZ-ofZ (c .fits .q)) (floor-small (a c) (k c) (c .pre .0) (c .pre .1) (floor c)))
 
 add-if1 : tie.Need-add-if1
-add-if1 c = rw (toZ-ofZ (middle-fits c), there c, odd (c .before), toZ-ofZ (even-fits (c .before))) (up-fits (c .before))
+add-if1 c =
+    let s = c .before in
+    rw (toZ-ofZ (middle-fits c), there c, odd s) (search (up-fits s, toZ-ofZ, small-fits, bits-small, digit-le (a s) (suc (k s)), one))
 
 -- what the code tests is that the value goes up
 tested : (c : tie.After-middle) →
@@ -109,7 +120,7 @@ tested c =
       there c,
       odd s,
       toZ-ofZ (even-fits s),
-      toZ-ofZ (up-fits s),
+      toZ-ofZ (up-fits s (even s) (bits-small 1 (digit (a s) (suc (k s))) one (digit-le (a s) (suc (k s))))),
       toZ-ofZ (s .fits .a),
       bit s,
       toZ-ofZ (value-fits s),
