@@ -1,8 +1,8 @@
 -- Laws of a list that a loop writes over from its front, of parts stored one behind the other, and of the search for the first fault.
 -- Each is over the element type, and is what one turn of such a loop asks. Assumes nothing.
 -- Proved here: `length-tab`, `getD-tab`, `over-none`, `over-store`, `length-over`, `over-front`, `over-below`, `over-above`, `sets-append`,
--- `sets-front`, `flat-more`, `length-flat`, `flat-most`, `flat-grows`, `flat-store`, `first-bad-le`, `first-bad-before`, `first-bad-at`,
--- `first-bad-none`, `first-bad-end`, `first-bad-fails`, `all-each`, `each-all`, `all-fails`.
+-- `sets-front`, `flat-more`, `length-flat`, `flat-most`, `flat-grows`, `flat-store`, `first-bad-le`, `first-bad-most`, `first-bad-before`,
+-- `first-bad-at`, `first-bad-none`, `first-bad-end`, `first-bad-fails`, `all-each`, `each-all`, `all-fails`.
 use mathlib.Core.Path.{_≡_, refl, sym, ap, _∙_}
 use mathlib.Core.Bool.{Bool, true, false, cond}
 use mathlib.Core.List.{List, [], _∷_, _++_, append-assoc, append-nil}
@@ -111,6 +111,17 @@ first-bad-le zero good = omega arith
 first-bad-le (suc n) good = go (good zero) (first-bad-le n (λ k. good (suc k)))
   where
     go : (b : Bool) → firstBad n (λ k. good (suc k)) ≤ n → cond b (suc (firstBad n (λ k. good (suc k)))) 0 ≤ suc n
+    go true h = omega arith
+    go false h = omega arith
+
+-- no index at which the test fails stands before it
+pub first-bad-most : (n i : ℕ) (good : ℕ → Bool) → good i ≡ false → firstBad n good ≤ i
+unfolding firstBad
+first-bad-most zero i good e = omega arith
+first-bad-most (suc n) zero good e = rw e (omega arith)
+first-bad-most (suc n) (suc i) good e = go (good zero) (first-bad-most n i (λ k. good (suc k)) e)
+  where
+    go : (b : Bool) → firstBad n (λ k. good (suc k)) ≤ i → cond b (suc (firstBad n (λ k. good (suc k)))) 0 ≤ suc i
     go true h = omega arith
     go false h = omega arith
 
