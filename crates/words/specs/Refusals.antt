@@ -6,7 +6,7 @@ use Rattle.words.specs.declared.Cause.{Cause}
 use Rattle.words.specs.declared.Cause.the-variants.{Width, Unit, Number, Mismatch}
 use Rattle.words.specs.declared.Cause.the-variants.{Depth, WidthPast, UnitPast, NumberPast}
 use Rattle.words.specs.declared.Cause.the-variants.{DigitText, Buffer, Mark, Form}
-use Rattle.words.specs.declared.Cause.the-variants.{Channel}
+use Rattle.words.specs.declared.Cause.the-variants.{Byte, Channel}
 use Rattle.words.specs.declared.Outcome.{Outcome}
 use Rattle.words.specs.declared.Outcome.the-variants.{Done, Refused}
 use Rattle.words.specs.declared.Format.{Format}
@@ -14,11 +14,12 @@ use Rattle.words.specs.declared.WriteAnswer.{WriteAnswer}
 use Rattle.words.specs.Words.{badWidth, badUnit, outside, badRoundBit}
 
 -- the table: each cause once, and below the number of each, which docs/REFUSALS.md has in words.
--- The last is document 02's, Ask 1: "17 for a channel over 3"
+-- The last two are document 02's. Ask 3: "a byte outside the three is 13, repeated signs stay 9";
+-- Ask 1: "17 for a channel over 3"
 abbrev pub causes : List Cause
 causes =
     Width ∷ Unit ∷ Number ∷ Mismatch ∷ Depth ∷ WidthPast ∷ UnitPast ∷ NumberPast
-    ∷ DigitText ∷ Buffer ∷ Mark ∷ Form ∷ Channel ∷ []
+    ∷ DigitText ∷ Buffer ∷ Mark ∷ Form ∷ Byte ∷ Channel ∷ []
 
 abbrev pub causeNumber : Cause → ℕ
 causeNumber Width = 1
@@ -33,6 +34,7 @@ causeNumber DigitText = 9
 causeNumber Buffer = 10
 causeNumber Mark = 11
 causeNumber Form = 12
+causeNumber Byte = 13
 causeNumber Channel = 17
 
 -- "Done is 0."
@@ -68,7 +70,7 @@ refuseAt (Refused c) = refuseFor c
 refuseAt Done = record {}
 
 -- `refuse n test`: the refusal that the table numbers n. For a number that the table lacks there is
--- none, and `refuse 13 test` has no type
+-- none, and `refuse 18 test` has no type
 abbrev pub refuse : (n : ℕ) → Refuse (row n)
 refuse n = refuseAt (row n)
 

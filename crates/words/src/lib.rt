@@ -30,6 +30,7 @@ pub enum Cause {
     Buffer,
     Mark,
     Form,
+    Byte,
     Channel,
 }
 
@@ -113,6 +114,7 @@ pub fn number_of(o: Outcome) -> u32
             Cause::Buffer => 10,
             Cause::Mark => 11,
             Cause::Form => 12,
+            Cause::Byte => 13,
             Cause::Channel => 17,
         },
     }
