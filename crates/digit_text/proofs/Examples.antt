@@ -1,19 +1,46 @@
--- Document 01's digit texts that are read back, computed from the definitions.
+-- Document 01's digit texts that are read back, and texts whose fault has a place, computed from the definitions.
 use mathlib.Core.Path.{_≡_, refl}
-use mathlib.Core.List.{[], _∷_}
-use lib.IntN.{pos}
+use mathlib.Core.List.{List, [], _∷_}
+use Prim.Native.Nat.{ℕ}
+use lib.IntN.{ℤ, pos}
+use lib.ListN.{replicate}
 use Rattle.integers.specs.Lists.{firstBad}
-use Rattle.words.specs.declared.Cause.the-variants.{DigitText}
+use Rattle.words.specs.declared.Cause.{Cause}
+use Rattle.words.specs.declared.Cause.the-variants.{Width, Byte, DigitText}
+use Rattle.words.specs.Refusals.{formatCheck}
 use Rattle.words.specs.Formats.{format}
 use Rattle.words.specs.RoundBit.{roundBitWord}
 use Rattle.words.specs.declared.Outcome.the-variants.{Done, Refused}
+use Rattle.digit_text.specs.declared.ReadAnswer.{ReadAnswer}
 use Rattle.digit_text.specs.Digits.{plus, none, minus, digitOf, textValue, signBefore}
-use Rattle.digit_text.specs.Reading.{goodAt, firstFault, faulty, readCheck, readRound, readWord, readOf}
+use Rattle.digit_text.specs.Reading.{strangeAt, repeatsAt, strangePlace, repeatPlace, faultCheck, readCheck, placeOf, readRound, readWord, readOf}
+
+-- a word of width 2 and unit 0, and a refusal with its place
+abbrev reads : ℤ → ℕ → ReadAnswer
+reads a r = record { outcome = Done; word = roundBitWord a r (format 2 (pos 0)); place = 0 }
+
+abbrev refuses : Cause → ℕ → ReadAnswer
+refuses c k = record { outcome = Refused c; word = roundBitWord (pos 0) 0 (format 2 (pos 0)); place = k }
 
 -- "Digit text `+0+` gives 9; `+-` with unit 0 reads as (1,0), width 2." "`0+` is (0,1)" "All zeros reads as (0,0)"
-readings : (readOf (plus ∷ none ∷ plus ∷ []) (pos 0) ≡ record { outcome = Refused DigitText; word = roundBitWord (pos 0) 0 (format 2 (pos 0)) })
-    × (readOf (plus ∷ minus ∷ []) (pos 0) ≡ record { outcome = Done; word = roundBitWord (pos 1) 0 (format 2 (pos 0)) })
-    × (readOf (none ∷ plus ∷ []) (pos 0) ≡ record { outcome = Done; word = roundBitWord (pos 0) 1 (format 2 (pos 0)) })
-    × (readOf (none ∷ none ∷ []) (pos 0) ≡ record { outcome = Done; word = roundBitWord (pos 0) 0 (format 2 (pos 0)) })
-unfolding firstBad digitOf textValue signBefore goodAt firstFault faulty readCheck readRound readWord readOf
+readings : (readOf (plus ∷ none ∷ plus ∷ []) (pos 0) ≡ refuses DigitText 2)
+    × (readOf (plus ∷ minus ∷ []) (pos 0) ≡ reads (pos 1) 0)
+    × (readOf (none ∷ plus ∷ []) (pos 0) ≡ reads (pos 0) 1)
+    × (readOf (none ∷ none ∷ []) (pos 0) ≡ reads (pos 0) 0)
+unfolding firstBad formatCheck digitOf textValue signBefore strangeAt repeatsAt strangePlace repeatPlace faultCheck readCheck placeOf readRound readWord readOf
 readings = (refl, refl, refl, refl)
+
+-- a blank and a question mark
+abbrev blank : ℕ
+blank = 32
+
+abbrev asked : ℕ
+asked = 63
+
+-- `+ +`, `++-`, `+0-0-+?`, which has both faults, and 64 bytes of `x`, which are too many
+places : (readOf (plus ∷ blank ∷ plus ∷ []) (pos 0) ≡ refuses Byte 1)
+    × (readOf (plus ∷ plus ∷ minus ∷ []) (pos 0) ≡ refuses DigitText 1)
+    × (readOf (plus ∷ none ∷ minus ∷ none ∷ minus ∷ plus ∷ asked ∷ []) (pos 0) ≡ refuses Byte 6)
+    × (readOf (replicate 64 120) (pos 0) ≡ refuses Width 0)
+unfolding firstBad formatCheck digitOf textValue signBefore strangeAt repeatsAt strangePlace repeatPlace faultCheck readCheck placeOf readRound readWord readOf
+places = (refl, refl, refl, refl)

@@ -5,3 +5,4 @@ pub mod GoodTexts
 pub mod Texts
 pub mod Readings
 pub mod Faults
+pub mod Told

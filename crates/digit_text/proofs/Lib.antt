@@ -1,5 +1,6 @@
 mod Examples
 pub mod Scan
+pub mod Places
 pub mod Laws
 mod Wrong
 mod Unique

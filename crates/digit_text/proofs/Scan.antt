@@ -1,13 +1,13 @@
 -- Facts about texts and their digits, for the functions and the laws: a digit's byte, what one byte more does to a text's value and to the
--- sign before the next place, how large the value can be, and what a passed check tells. Assumes nothing.
+-- sign before the next place, how large the value can be, and what a passed check of a writing tells. Assumes nothing.
 -- Proved here: `byte-none`, `byte-plus`, `byte-minus`, `signed-above`, `digit-range`, `getD-any`, `value-append`, `value-next`, `value-range`,
--- `value-small`, `sign-next`, `bit-le`, `round-le`, `good-is`, `read-right`, `write-room`.
+-- `value-small`, `sign-next`, `bit-le`, `round-le`, `write-room`.
 use Prim.Native.Nat.{ℕ, zero, suc, _+_, _*_, _-_, _^_, _≤_, _<_}
 use native.Mathlib.Nat.{not-suc-le-zero, le-of-suc-le-suc, lt-of-lt-of-le, mul-le-mul-right, pow-succ'}
 use native.Mathlib.Numerals.{add-one}
 use native.Mathlib.Omega.{arith}
 use mathlib.Core.Path.{_≡_, refl, sym, _∙_}
-use mathlib.Core.Bool.{Bool, true, false, not, cond, _&&_, _||_}
+use mathlib.Core.Bool.{Bool, true, false, cond}
 use mathlib.Core.List.{List, [], _∷_, _++_}
 use lib.Dec.{eqb, ltb}
 use lib.IntN.{ℤ, pos, negsuc, natAbs, _+ℤ_, _-ℤ_, _*ℤ_, zero-*ℤ, +ℤ-idl, +ℤ-assoc}
@@ -18,17 +18,15 @@ use borrow.Author.Tests.{ltb-false}
 use Rattle.integers.specs.Numbers.{digit}
 use Rattle.integers.proofs.Kit.{up, down, ints, plus-law, minus-law, times-law, abs-law, one-zero}
 use Rattle.integers.proofs.Times.{plus-times, times-assoc}
-use Rattle.words.specs.Words.{badWidth, badUnit}
-use Rattle.words.specs.Refusals.{refuseFor, formatCheck}
-use Rattle.words.specs.Formats.{format}
+use Rattle.words.specs.Refusals.{refuseFor}
 use Rattle.words.specs.RoundBit.{roundBitCheck}
-use Rattle.words.specs.declared.Cause.the-variants.{Width, Unit, DigitText, Buffer}
+use Rattle.words.specs.declared.Cause.the-variants.{Buffer}
 use Rattle.words.specs.declared.Outcome.the-variants.{Done}
 use Rattle.words.specs.declared.RoundBit.{RoundBit}
 use Rattle.words.specs.declared.RoundBitWord.{RoundBitWord}
-use Rattle.words.proofs.Laws.{RightFormat, right-format, both-passed, three-passed, both-pass, passed}
+use Rattle.words.proofs.Laws.{both-passed, passed}
 use Rattle.digit_text.specs.Digits.{plus, none, minus, signedDigit, byteOf, digitOf, textValue, signBefore, writeCheck}
-use Rattle.digit_text.specs.Reading.{strange, goodAt, faulty, readCheck, readRound}
+use Rattle.digit_text.specs.Reading.{readRound}
 
 -- ---- a digit and its byte
 pub byte-none : (x y : ℕ) → x ≡ y → byteOf (pos x -ℤ pos y) ≡ none
@@ -119,22 +117,7 @@ pub round-le : (t : List ℕ) → readRound t ≤ 1
 unfolding readRound
 round-le t = bit-le (eqb (signBefore t (length t)) plus)
 
--- ---- a byte is good where it is no fault after the sign before it
-abbrev pub fault : ℕ → ℕ → Bool
-fault b s = strange b || (not (eqb b none) && eqb b s)
-
-pub good-is : (t : List ℕ) (k s : ℕ) → k < length t → s ≡ signBefore t k → goodAt t k ≡ not (fault (getD t k 0) s)
-unfolding goodAt
-good-is t k s h e = rw (getD-any t k none 0 h, e)
-
--- ---- what a passed check of a reading tells
-pub read-right : (t : List ℕ) (e : ℤ) → readCheck t e ≡ Done → RightFormat (format (length t) e) × (faulty t ≡ false)
-unfolding readCheck formatCheck
-read-right t e d =
-    let p = three-passed (refuseFor Width (badWidth (length t))) (refuseFor Unit (badUnit e)) (refuseFor DigitText (faulty t)) d in
-    (right-format (format (length t) e) (both-pass (p .0) (p .1)), passed DigitText (faulty t) (p .2))
-
--- and of a writing: there is room for the text
+-- ---- what a passed check of a writing tells: there is room for the text
 pub write-room : (w : RoundBitWord) (room : ℕ) → writeCheck w room ≡ Done → w .format .width ≤ room
 unfolding writeCheck
 write-room w room d =

@@ -4,19 +4,22 @@
 // The nonzero ones alternate in sign. That is why rounding is cutting digits off, a sign change is
 // turning every digit over, and widening is appending zeros: the text shows all three.
 //
-// Writing touches only the bytes of the text, and none where it refuses. Reading looks for the first
-// fault from the start before it makes a word.
+// Writing touches only the bytes of the text, and none where it refuses. Reading looks for a byte that is
+// none of the three, then for a sign that repeats the one before it, and tells the place of the leftmost;
+// only a text without either makes a word.
 ghost use mathlib.Core.Path.{_≡_};
-ghost use mathlib.Core.Bool.{not, cond, _&&_, _||_};
+ghost use mathlib.Core.Bool.{not, cond, _&&_};
 ghost use Prim.Native.Nat.{_≤_};
-ghost use lib.Dec.{eqb};
+ghost use lib.Dec.{eqb, ltb};
 ghost use lib.IntN.{pos, _-ℤ_};
-ghost use lib.ListN.{length};
+ghost use lib.ListN.{length, getD};
 ghost use Rattle.integers.specs.Lists.{over};
 ghost use Rattle.words.specs.Words.{mostWidth};
-ghost use Rattle.words.specs.RoundBit.{roundBitRefused, roundBitDone};
+ghost use Rattle.words.specs.Refusals.{refuseFor, formatCheck};
+ghost use Rattle.words.specs.Formats.{format};
+ghost use Rattle.words.specs.RoundBit.{roundBitRefused};
 ghost use Rattle.digit_text.specs.Digits.{none, signedDigit, byteOf, digitOf, byteAt, textValue, writeCheck, writeOf, bufferOf};
-ghost use Rattle.digit_text.specs.Reading.{strange, firstFault, readCheck, readRound, readWord, readAnswer, readOf};
+ghost use Rattle.digit_text.specs.Reading.{strange, strangePlace, repeatPlace, faultCheck, readCheck, finding, readRound, readWord, readOf};
 use words::Cause;
 use words::Format;
 use words::Outcome;
@@ -24,10 +27,12 @@ use words::RoundBit;
 use words::RoundBitWord;
 use words::WriteAnswer;
 
-// The answer of a reading.
+// The answer of a reading. The place is of the byte that a 13 or a 9 is for, counted from 0 at the most
+// significant end; it is 0 with every other answer.
 pub struct ReadAnswer {
     pub outcome: Outcome,
     pub word: RoundBitWord,
+    pub place: u32,
 }
 
 // A digit's byte: the digit below it less the digit itself.
@@ -95,35 +100,110 @@ pub fn write(w: RoundBitWord, text: &mut [u8]) -> WriteAnswer
     }
 }
 
-// Is b a fault after the sign before it: none of the three bytes, or that sign again?
-fn fault(b: u8, before: u8) -> bool
-    ensures { λ r. ⌜ r ≡ (strange b || (not (eqb b none) && eqb b before)) ⌝ }
+// Is it none of the three bytes?
+fn strange(b: u8) -> bool
+    ensures { λ r. ⌜ r ≡ strange b ⌝ }
 {
-    !((b == b'+') | (b == b'0') | (b == b'-')) | (!(b == b'0') & (b == before))
+    !((b == b'+') | (b == b'0') | (b == b'-'))
 }
 
-// The sign nearest before the next byte.
-fn sign_after(b: u8, before: u8) -> u8
-    ensures { λ r. ⌜ r ≡ cond (eqb b none) before b ⌝ }
+// The place of the leftmost byte that is none of the three, or the length. `left` bytes are still to be
+// looked at.
+fn strange_place(text: &[u8]) -> usize
+    ensures { λ r. ⌜ r ≡ strangePlace (now (text .entry)) ⌝ }
 {
-    if b == b'0' { before } else { b }
+    let n = text.len();
+    let mut left = n;
+    while 0 < left {
+        if strange(text[n - left]) {
+            return n - left;
+        }
+        left -= 1;
+    }
+    n
 }
 
-// The place of the first fault from the start, or the length.
-fn first_fault(text: &[u8]) -> usize
-    ensures { λ r. ⌜ r ≡ firstFault (now (text .entry)) ⌝ }
+// The byte at this place, `0` past the end.
+fn byte_in(text: &[u8], k: usize) -> u8
+    ensures { λ r. ⌜ r ≡ getD (now (text .entry)) k none ⌝ }
 {
-    let mut before = b'0';
-    let mut k = 0;
-    while k < text.len() {
+    if k < text.len() { text[k] } else { b'0' }
+}
+
+// Is b a sign, and the sign before it again?
+fn repeats(b: u8, before: u8) -> bool
+    ensures { λ r. ⌜ r ≡ (not (eqb b none) && eqb b before) ⌝ }
+{
+    !(b == b'0') & (b == before)
+}
+
+// Where the sign nearest before the byte behind k stands.
+fn place_after(b: u8, k: usize, before: usize) -> usize
+    ensures { λ r. ⌜ r ≡ cond (eqb b none) before k ⌝ }
+{
+    if b == b'0' { before } else { k }
+}
+
+// The place of the leftmost sign that repeats the sign before it, or the length. `before` is where that
+// sign stands, past the end while there is none.
+fn repeat_place(text: &[u8]) -> usize
+    ensures { λ r. ⌜ r ≡ repeatPlace (now (text .entry)) ⌝ }
+{
+    let n = text.len();
+    let mut before = n;
+    let mut left = n;
+    while 0 < left {
+        let k = n - left;
         let b = text[k];
-        if fault(b, before) {
+        if repeats(b, byte_in(text, before)) {
             return k;
         }
-        before = sign_after(b, before);
-        k += 1;
+        before = place_after(b, k, before);
+        left -= 1;
     }
-    k
+    n
+}
+
+// What a check finds: its outcome, and the place that it tells, 0 where it tells none.
+struct Finding {
+    outcome: Outcome,
+    place: usize,
+}
+
+fn refused_at(c: Cause, place: usize) -> Finding
+    ensures { λ r. ⌜ r ≡ record { outcome = Outcome.Refused c; place = place } ⌝ }
+{
+    Finding {
+        outcome: Outcome::Refused(c),
+        place: place,
+    }
+}
+
+// The fault at k, where k lies inside a text of n bytes, and else done.
+fn fault_at(c: Cause, k: usize, n: usize) -> Finding
+    ensures { λ r. ⌜ r ≡ record { outcome = refuseFor c (ltb k n); place = cond (ltb k n) k 0 } ⌝ }
+{
+    if k < n {
+        refused_at(c, k)
+    } else {
+        Finding {
+            outcome: Outcome::Done,
+            place: 0,
+        }
+    }
+}
+
+// 13, then 9.
+fn fault_check(text: &[u8]) -> Finding
+    ensures { λ r. ⌜ r ≡ finding (now (text .entry)) (faultCheck (now (text .entry))) ⌝ }
+{
+    let n = text.len();
+    let byte = fault_at(Cause::Byte, strange_place(text), n);
+    let o = byte.outcome;
+    match o {
+        Outcome::Refused(c) => byte,
+        Outcome::Done => fault_at(Cause::DigitText, repeat_place(text), n),
+    }
 }
 
 // The ends of the widths, in the type of a length.
@@ -131,22 +211,30 @@ const LEAST_WIDTH: usize = words::LEAST_WIDTH as usize;
 
 const MOST_WIDTH: usize = words::MOST_WIDTH as usize;
 
-fn read_check(text: &[u8], unit: i32) -> Outcome
-    ensures { λ r. ⌜ r ≡ readCheck (now (text .entry)) unit ⌝ }
+// 1 of the length, which is the width, then 2.
+fn format_check(n: usize, unit: i32) -> Outcome
+    ensures { λ r. ⌜ r ≡ formatCheck (format n unit) ⌝ }
 {
-    let n = text.len();
     if let Outcome::Refused(c) = words::refuse_for(
         Cause::Width,
         !((LEAST_WIDTH <= n) & (n <= MOST_WIDTH)),
     ) {
         Outcome::Refused(c)
-    } else if let Outcome::Refused(c) = words::refuse_for(
-        Cause::Unit,
-        !((words::LEAST_UNIT <= unit) & (unit <= words::MOST_UNIT)),
-    ) {
-        Outcome::Refused(c)
     } else {
-        words::refuse_for(Cause::DigitText, first_fault(text) < n)
+        words::refuse_for(
+            Cause::Unit,
+            !((words::LEAST_UNIT <= unit) & (unit <= words::MOST_UNIT)),
+        )
+    }
+}
+
+fn read_check(text: &[u8], unit: i32) -> Finding
+    ensures { λ r. ⌜ r ≡ finding (now (text .entry)) (readCheck (now (text .entry)) unit) ⌝ }
+{
+    let n = text.len();
+    match format_check(n, unit) {
+        Outcome::Refused(c) => refused_at(c, 0),
+        Outcome::Done => fault_check(text),
     }
 }
 
@@ -172,6 +260,13 @@ fn text_value(text: &[u8]) -> i64
         k += 1;
     }
     value
+}
+
+// The sign nearest before the next byte.
+fn sign_after(b: u8, before: u8) -> u8
+    ensures { λ r. ⌜ r ≡ cond (eqb b none) before b ⌝ }
+{
+    if b == b'0' { before } else { b }
 }
 
 // 1 where the lowest nonzero digit is `+`.
@@ -203,23 +298,25 @@ fn read_word(text: &[u8], unit: i32) -> RoundBitWord
     }
 }
 
-fn read_refused(c: Cause) -> ReadAnswer
-    ensures { λ r. ⌜ r ≡ readAnswer (roundBitRefused c) ⌝ }
+fn read_refused(c: Cause, place: u32) -> ReadAnswer
+    ensures { λ r. ⌜ r ≡ record { outcome = Outcome.Refused c; word = roundBitRefused c .word; place = place } ⌝ }
 {
     let a = words::round_bit_refused(c);
     let blank = a.word;
     ReadAnswer {
         outcome: Outcome::Refused(c),
         word: blank,
+        place: place,
     }
 }
 
-fn read_done(w: RoundBitWord) -> ReadAnswer
-    ensures { λ r. ⌜ r ≡ readAnswer (roundBitDone w) ⌝ }
+fn read_done(w: RoundBitWord, place: u32) -> ReadAnswer
+    ensures { λ r. ⌜ r ≡ record { outcome = Outcome.Done; word = w; place = place } ⌝ }
 {
     ReadAnswer {
         outcome: Outcome::Done,
         word: w,
+        place: place,
     }
 }
 
@@ -227,8 +324,11 @@ fn read_done(w: RoundBitWord) -> ReadAnswer
 pub fn read(text: &[u8], unit: i32) -> ReadAnswer
     ensures { λ r. ⌜ r ≡ readOf (now (text .entry)) unit ⌝ }
 {
-    match read_check(text, unit) {
-        Outcome::Refused(c) => read_refused(c),
-        Outcome::Done => read_done(read_word(text, unit)),
+    let found = read_check(text, unit);
+    let o = found.outcome;
+    let place = found.place as u32;
+    match o {
+        Outcome::Refused(c) => read_refused(c, place),
+        Outcome::Done => read_done(read_word(text, unit), place),
     }
 }

@@ -4,22 +4,21 @@
 use Prim.Native.Nat.{ℕ, suc, _+_, _-_, _^_, _≤_, _<_}
 use native.Mathlib.Omega.{arith}
 use mathlib.Core.Path.{_≡_, refl, sym, _∙_}
-use mathlib.Core.Bool.{Bool, true, false, not, _&&_, _||_, true≢false, or-true}
+use mathlib.Core.Bool.{Bool, true, false, not, _||_, true≢false, or-true}
 use mathlib.Core.List.{List, _∷_}
 use mathlib.Core.Logic.{_⊎_, inl, inr}
 use lib.Dec.{eqb}
 use lib.IntN.{pos, natAbs, _-ℤ_, _*ℤ_}
 use lib.ListN.{length, getD, take, drop, length-drop}
 use lib.Seq.{drop-cons, getD-drop}
-use borrow.Author.Tests.{eq-eqb, ne-eqb, eqb-true, eqb-false, ltb-true}
-use Rattle.integers.specs.Lists.{firstBad}
-use Rattle.integers.proofs.Kit.{up, down, abs-range, is-true, is-false}
-use Rattle.integers.proofs.Lists.{first-bad-fails}
+use borrow.Author.Tests.{eq-eqb, ne-eqb, eqb-true, eqb-false, ltb-true, not-true}
+use Rattle.integers.proofs.Kit.{up, down, abs-range, and-both, is-true, is-false}
 use Rattle.digit_text.specs.Digits.{plus, none, minus, digitOf, textValue, signBefore}
-use Rattle.digit_text.specs.Reading.{strange, goodAt, firstFault, faulty}
+use Rattle.digit_text.specs.Reading.{strange, strangeAt, repeatsAt, strangePlace, repeatPlace, found}
 use Rattle.digit_text.proofs.Laws.Steps.{cons-law, cut-off, steps-rest, steps-near}
 use Rattle.digit_text.proofs.Laws.Signs.{Nearest, sign-found, found-sign, leads}
-use Rattle.digit_text.proofs.Laws.GoodTexts.{Byte, a-plus, a-none, a-minus, byte-kind, fault-at, good-stepping}
+use Rattle.digit_text.proofs.Laws.GoodTexts.{Byte, a-plus, a-none, a-minus, byte-kind, good-stepping}
+use Rattle.digit_text.proofs.Places.{leftmost-holds, found-leftmost, faulty}
 
 -- ---- a text is faulty exactly where a byte is none of the three, or two nonzero digits of one sign have nothing or only zeros between them
 pub record Strange (t : List ℕ) : Type 0 where
@@ -36,49 +35,56 @@ pub record Repeated (t : List ℕ) : Type 0 where
   pub same : getD t first none ≡ getD t second none
   pub between : (k : ℕ) → first < k → k < second → getD t k none ≡ none
 
-fault-tells : (t : List ℕ) (k : ℕ) → k < length t → goodAt t k ≡ false → Strange t ⊎ Repeated t
-unfolding goodAt
-fault-tells t k l = go (strange b) refl (eqb b none) refl (eqb b (signBefore t k)) refl
-  where
-    b : ℕ
-    b = getD t k none
+-- a sign that repeats the one before it, and where that stands
+pub repeats-tells : (t : List ℕ) (k : ℕ) → repeatsAt t k ≡ true → (getD t k none ≡ none → ⊥) × Nearest t k (getD t k none)
+unfolding repeatsAt
+repeats-tells t k e =
+    let b = getD t k none in
+    let p = and-both (not (eqb b none)) (eqb b (signBefore t k)) e in
+    let same = eqb-true b (signBefore t k) (p .1) in
+    let nonzero = eqb-false b none (not-true (eqb b none) (p .0)) in
+    (nonzero, rw (← same) at (sign-found t k (λ q. nonzero (same ∙ q))))
 
-    go : (a : Bool) → strange b ≡ a → (n : Bool) → eqb b none ≡ n → (s : Bool) → eqb b (signBefore t k) ≡ s → not (a || not n && s) ≡ false →
-        Strange t ⊎ Repeated t
-    go true e n f s g h = inl (record { place = k; inside = l; byte = e })
-    go false e true f s g h = absurd (true≢false h)
-    go false e false f false g h = absurd (true≢false h)
-    go false e false f true g h =
-        inr (record { first = p .place; second = k; order = p .before; inside = l; nonzero = nonzero; same = p .sign ∙ sym same; between = p .between })
-      where
-        same : b ≡ signBefore t k
-        same = eqb-true b (signBefore t k) g
-
-        nonzero : b ≡ none → ⊥
-        nonzero = eqb-false b none f
-
-        p : Nearest t k (signBefore t k)
-        p = sign-found t k (λ q. nonzero (same ∙ q))
+pub tells-repeats : (t : List ℕ) (k : ℕ) → (getD t k none ≡ none → ⊥) → Nearest t k (getD t k none) → repeatsAt t k ≡ true
+unfolding repeatsAt
+tells-repeats t k n p = let b = getD t k none in rw (found-sign t k b p n, ne-eqb b none n, eq-eqb b b refl)
 
 pub faulty-tells : (t : List ℕ) → faulty t ≡ true → Strange t ⊎ Repeated t
-unfolding faulty firstFault
-faulty-tells t e =
-    let l = ltb-true (firstBad (length t) (goodAt t)) (length t) e in
-    fault-tells t (firstBad (length t) (goodAt t)) l (first-bad-fails (length t) (goodAt t) l)
+unfolding strangePlace repeatPlace strangeAt
+faulty-tells t = go (found (strangePlace t) t) refl (found (repeatPlace t) t) refl
+  where
+    go : (s : Bool) → found (strangePlace t) t ≡ s → (r : Bool) → found (repeatPlace t) t ≡ r → (s || r) ≡ true → Strange t ⊎ Repeated t
+    go true e r f h = inl (record { place = strangePlace t; inside = ltb-true (strangePlace t) (length t) e; byte = leftmost-holds t (strangeAt t) e })
+    go false e true f h =
+        let k = repeatPlace t in
+        let p = repeats-tells t k (leftmost-holds t (repeatsAt t) f) in
+        let n = p .1 in
+        inr (record {
+          first = n .place;
+          second = k;
+          order = n .before;
+          inside = ltb-true k (length t) f;
+          nonzero = p .0;
+          same = n .sign;
+          between = n .between;
+        })
+    go false e false f h = absurd (true≢false (sym h))
+
+pub strange-found : (t : List ℕ) → Strange t → found (strangePlace t) t ≡ true
+unfolding strangePlace strangeAt
+strange-found t s = found-leftmost t (strangeAt t) (s .place) (s .inside) (s .byte)
+
+pub repeated-found : (t : List ℕ) → Repeated t → found (repeatPlace t) t ≡ true
+unfolding repeatPlace
+repeated-found t r =
+    let n : Nearest t (r .second) (getD t (r .second) none) = record { place = r .first; before = r .order; sign = r .same; between = r .between } in
+    found-leftmost t (repeatsAt t) (r .second) (r .inside) (tells-repeats t (r .second) (r .nonzero) n)
 
 pub strange-faulty : (t : List ℕ) → Strange t → faulty t ≡ true
-unfolding goodAt
-strange-faulty t s = fault-at t (s .place) (s .inside) (rw (s .byte))
+strange-faulty t s = rw (strange-found t s)
 
 pub repeated-faulty : (t : List ℕ) → Repeated t → faulty t ≡ true
-unfolding goodAt
-repeated-faulty t r = fault-at t (r .second) (r .inside) (rw (before, ne-eqb b none (r .nonzero), eq-eqb b b refl, or-true))
-  where
-    b : ℕ
-    b = getD t (r .second) none
-
-    before : signBefore t (r .second) ≡ b
-    before = found-sign t (r .second) b (record { place = r .first; before = r .order; sign = r .same; between = r .between }) (r .nonzero)
+repeated-faulty t r = rw (repeated-found t r, or-true)
 
 -- ---- a text of the three bytes is good exactly when cutting off its last k bytes, for every k from 1 to its length, moves its value by
 -- at most 2 ^ (k - 1)

@@ -1,25 +1,28 @@
 -- Which texts a scan from the start finds good, and that those are the steps of bits. Assumes nothing.
--- Proved here: `steps-no-fault`, `byte-kind`, `bit`, `tells`, `stepping`, `fault-at`, `good-stepping`.
+-- Proved here: `steps-no-fault`, `byte-kind`, `bit`, `tells`, `stepping`, `good-stepping`.
 use Prim.Native.Nat.{ℕ, zero, suc, _≤_, _<_}
 use native.Mathlib.Nat.{not-suc-le-zero, le-of-suc-le-suc}
 use native.Mathlib.Omega.{arith}
 use mathlib.Core.Path.{_≡_, refl, sym, _∙_}
-use mathlib.Core.Bool.{Bool, true, false, not, _||_, true≢false, false≢true}
+use mathlib.Core.Bool.{Bool, true, false, not, _&&_, _||_, true≢false}
 use mathlib.Core.List.{List, [], _∷_}
 use lib.Dec.{eqb}
 use lib.IntN.{pos, _-ℤ_}
 use lib.ListN.{length, getD}
-use borrow.Author.Tests.{ne-eqb, eqb-true, eqb-false, ltb-false, not-true}
-use Rattle.integers.specs.Lists.{firstBad}
+use borrow.Author.Tests.{ne-eqb, eqb-true, eqb-false, not-true}
 use Rattle.integers.proofs.Digits.{both-bits}
-use Rattle.integers.proofs.Lists.{first-bad-before, first-bad-none}
+use Rattle.words.proofs.Laws.{or-false}
 use Rattle.digit_text.specs.Digits.{plus, none, minus, byteOf}
-use Rattle.digit_text.specs.Reading.{strange, goodAt, firstFault, faulty}
+use Rattle.digit_text.specs.Reading.{strange, strangeAt, repeatsAt, strangePlace, repeatPlace, found}
 use Rattle.digit_text.proofs.Laws.Steps.{Steps, ends, steps, steps-bits}
-use Rattle.digit_text.proofs.Scan.{bit-le, fault}
+use Rattle.digit_text.proofs.Scan.{bit-le}
+use Rattle.digit_text.proofs.Places.{leftmost-none, not-found, faulty}
 use Rattle.digit_text.proofs.Laws.Signs.{after, signFrom, sign-from-none, sign-from-cons, plusBit}
 
 -- ---- a byte that is good behind the sign s, and a text that is good behind it
+abbrev fault : ℕ → ℕ → Bool
+fault b s = strange b || (not (eqb b none) && eqb b s)
+
 abbrev goodByte : ℕ → ℕ → Bool
 goodByte s b = not (fault b s)
 
@@ -46,9 +49,16 @@ steps-good s n (steps {b = b} {c = c} h k p) zero l = step-good s c b k h n .0
 steps-good s n (steps {b = b} {c = c} {t = t} h k p) (suc i) l =
     rw (sign-from-cons s (byteOf (pos c -ℤ pos b)) t i) (steps-good _ (step-good s c b k h n .1) p i (le-of-suc-le-suc l))
 
-pub steps-no-fault : {b r : ℕ} {t : List ℕ} → Steps b t r → firstFault t ≡ length t
-unfolding firstFault goodAt
-steps-no-fault {t = t} p = first-bad-none (length t) _ (λ k l. rw (sign-from-none t k) (steps-good none (omega arith) p k l))
+-- neither of two faults
+neither : (a r : Bool) → not (a || r) ≡ true → (a ≡ false) × (r ≡ false)
+neither a r e = or-false a r (not-true (a || r) e)
+
+pub steps-no-fault : {b r : ℕ} {t : List ℕ} → Steps b t r → (strangePlace t ≡ length t) × (repeatPlace t ≡ length t)
+unfolding strangePlace repeatPlace strangeAt repeatsAt
+steps-no-fault {t = t} p = (leftmost-none t (strangeAt t) (λ k l. good k l .0), leftmost-none t (repeatsAt t) (λ k l. rw (sign-from-none t k) (good k l .1)))
+  where
+    good : (k : ℕ) → k < length t → (strange (getD t k none) ≡ false) × ((not (eqb (getD t k none) none) && eqb (getD t k none) (signFrom none t k)) ≡ false)
+    good k l = neither _ _ (steps-good none (omega arith) p k l)
 
 -- ---- the three bytes
 pub data Byte : ℕ → Type 0 where
@@ -96,29 +106,19 @@ stepping-more s b t a-minus g p =
       stepping = rw (sign-from-cons s minus t (length t)) (steps {b = 1} {c = 0} (omega arith) (omega arith) falling);
     }
 
-not-strange : (a r : Bool) → not (a || r) ≡ true → a ≡ false
-not-strange true r e = absurd (false≢true e)
-not-strange false r e = refl
-
 good-steps : (s : ℕ) (t : List ℕ) → Good s t → Stepping s t
 good-steps s [] g = record { bit = plusBit s; tells = (λ e. rw e, λ e. rw e); stepping = ends (bit-le (eqb s plus)) }
 good-steps s (b ∷ t) g =
     let here = g zero (omega arith) in
-    stepping-more s b t (byte-kind b (not-strange (strange b) _ here)) here
+    stepping-more s b t (byte-kind b (neither (strange b) _ here .0)) here
     (good-steps (after s b) t (λ k l. rw (sign-from-cons s b t k) at (g (suc k) (omega arith))))
 
 -- ---- a text that is not faulty is good at each index, so it is steps behind no sign
-each-good : (t : List ℕ) → faulty t ≡ false → (k : ℕ) → k < length t → goodAt t k ≡ true
-unfolding faulty firstFault
-each-good t g k l = first-bad-before (length t) (goodAt t) k (omega (arith, ltb-false (firstBad (length t) (goodAt t)) (length t) g))
-
-pub fault-at : (t : List ℕ) (k : ℕ) → k < length t → goodAt t k ≡ false → faulty t ≡ true
-fault-at t k l e = go (faulty t) refl
-  where
-    go : (f : Bool) → faulty t ≡ f → f ≡ true
-    go true g = refl
-    go false g = absurd (true≢false (sym (each-good t g k l) ∙ e))
+each-good : (t : List ℕ) → faulty t ≡ false → Good none t
+unfolding strangePlace repeatPlace strangeAt repeatsAt
+each-good t g k l =
+    let p = or-false (found (strangePlace t) t) (found (repeatPlace t) t) g in
+    rw (not-found t (strangeAt t) (p .0) k l, rw (sign-from-none t k) at (not-found t (repeatsAt t) (p .1) k l))
 
 pub good-stepping : (t : List ℕ) → faulty t ≡ false → Stepping none t
-unfolding goodAt
-good-stepping t g = good-steps none t (λ k l. rw (sign-from-none t k) at (each-good t g k l))
+good-stepping t g = good-steps none t (each-good t g)

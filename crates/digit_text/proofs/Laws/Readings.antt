@@ -11,24 +11,22 @@ use lib.ListN.{length}
 use borrow.Author.Tests.{le-ltb}
 use Rattle.integers.proofs.Kit.{ints, plus-law}
 use Rattle.integers.proofs.Digits.{digit-minus-one}
-use Rattle.words.specs.Words.{badWidth, badUnit}
-use Rattle.words.specs.Refusals.{refuseFor, formatCheck}
+use Rattle.words.specs.Refusals.{formatCheck}
 use Rattle.words.specs.Formats.{format}
 use Rattle.words.specs.RoundBit.{roundBitWord, roundBitCheck, roundBitDone}
-use Rattle.words.specs.declared.Cause.the-variants.{Width, Unit}
 use Rattle.words.specs.declared.Outcome.the-variants.{Done}
 use Rattle.words.specs.declared.Format.{Format}
 use Rattle.words.specs.declared.RoundBit.{RoundBit}
 use Rattle.words.specs.declared.RoundBitWord.{RoundBitWord}
-use Rattle.words.proofs.Laws.{both-passed, both-pass, RightFormat, format-right, round-bit-right, round-bit-passes}
-use Rattle.round_bit.proofs.Checks.{word-done}
+use Rattle.words.proofs.Laws.{both-pass, RightFormat, format-right, round-bit-right, round-bit-passes}
+use Rattle.words.proofs.Operands.{done-passed}
 use Rattle.digit_text.specs.Digits.{none, byteOf, text, textValue}
-use Rattle.digit_text.specs.Reading.{faulty, readCheck, readRound, readWord, readAnswer, readOf}
+use Rattle.digit_text.specs.Reading.{readCheck, readRound, readWord, readAnswer, readRefused, readOf}
 use Rattle.digit_text.proofs.Laws.Steps.{Steps, steps-bits, steps-fit, bitBelow, digitsText, digits-steps, steps-read}
 use Rattle.digit_text.proofs.Laws.Signs.{signFrom, sign-from-none, sign-from-cons, plusBit, last-sign}
 use Rattle.digit_text.proofs.Laws.GoodTexts.{good-stepping}
 use Rattle.digit_text.proofs.Laws.Texts.{text-is, text-length, text-value, text-good}
-use Rattle.digit_text.proofs.Scan.{read-right}
+use Rattle.digit_text.proofs.Places.{faulty, free-fault, read-right}
 
 -- ---- a text without a fault is steps down to the round bit that is read
 read-steps : (t : List ℕ) → faulty t ≡ false → (b : ℕ) × Steps b t (readRound t)
@@ -37,25 +35,22 @@ read-steps t g = let p = good-stepping t g in (p .bit, rw (sign-from-none t (len
 
 -- ---- what a done check asks
 read-passes : (t : List ℕ) (e : ℤ) → RightFormat (format (length t) e) → faulty t ≡ false → readCheck t e ≡ Done
-unfolding readCheck formatCheck
-read-passes t e g f =
-    let p = both-passed (refuseFor Width (badWidth (length t))) (refuseFor Unit (badUnit e)) (format-right (format (length t) e) g) in
-    both-pass (p .0) (both-pass (p .1) (rw f))
+unfolding readCheck
+read-passes t e g f = both-pass (format-right (format (length t) e) g) (free-fault t f)
 
 -- ---- closed: the word of a done reading passes its own check
 pub read-closed : (t : List ℕ) (e : ℤ) → readOf t e .outcome ≡ Done → roundBitCheck (readOf t e .word) ≡ Done
 unfolding readOf readWord
 read-closed t e d =
-    let c = word-done (readCheck t e) (readWord t e) d in
-    let p = read-right t e (c .0) in
+    let c = done-passed (readRefused t) (λ a. a .outcome) (λ c. refl) (readCheck t e) _ d in
+    let p = read-right t e c in
     let s = read-steps t (p .1) .1 in
     let fit = steps-fit s (omega (arith, p .0 .narrow)) in
-    rw (c .1) (round-bit-passes (readWord t e) (record { format = p .0; size = fit; bit = steps-bits s .1 }))
+    rw c (round-bit-passes (readWord t e) (record { format = p .0; size = fit; bit = steps-bits s .1 }))
 
 -- ---- reading what was written gives the word back, for every word but (-1,1), which gives (0,0)
 text-not-faulty : (w : RoundBitWord) → w .number .1 ≤ 1 → faulty (text w) ≡ false
-unfolding faulty
-text-not-faulty w h = rw (text-good w h) (le-ltb (length (text w)) (length (text w)) (omega arith))
+text-not-faulty w h = let g = text-good w h in rw (g .0, g .1, le-ltb (length (text w)) (length (text w)) (omega arith))
 
 -- what is read is the value a + r less the round bit that is read, and that round bit
 read-text : (w : RoundBitWord) → roundBitCheck w ≡ Done → (s : ℕ) → readRound (text w) ≡ s →

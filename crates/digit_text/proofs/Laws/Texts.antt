@@ -27,7 +27,7 @@ use Rattle.round_bit.specs.Cuts.{signChanged, signChangeWord, cutBy, cutWord, c
 use Rattle.round_bit.proofs.Laws.Cuts.{cut-done, cut-tells, cut-format}
 use Rattle.round_bit.proofs.Laws.Widenings.{widen-done, widen-tells, widen-cut-word}
 use Rattle.digit_text.specs.Digits.{plus, none, minus, signedDigit, byteOf, byteAt, text, textValue}
-use Rattle.digit_text.specs.Reading.{firstFault}
+use Rattle.digit_text.specs.Reading.{strangePlace, repeatPlace}
 use Rattle.digit_text.proofs.Laws.Steps.{bitBelow, digitsText, bit-below-le, digits-length, digits-steps, digits-value}
 use Rattle.digit_text.proofs.Laws.GoodTexts.{steps-no-fault}
 
@@ -69,8 +69,8 @@ text-value w e = rw (text-is w) (go (w .format .width) (g .format .narrow) (g .s
         one-less : suc n - 1 ≡ n
         one-less = omega arith
 
--- every byte is one of the three, and the nonzero digits alternate in sign: there is no fault up to the length
-pub text-good : (w : RoundBitWord) → w .number .1 ≤ 1 → firstFault (text w) ≡ length (text w)
+-- every byte is one of the three, and the nonzero digits alternate in sign: neither fault is found up to the length
+pub text-good : (w : RoundBitWord) → w .number .1 ≤ 1 → (strangePlace (text w) ≡ length (text w)) × (repeatPlace (text w) ≡ length (text w))
 text-good w h = rw (text-is w) (steps-no-fault (digits-steps (w .number) h (w .format .width)))
 
 -- ---- rounding is cutting digits off: the digits of the cut word are those from d on, with digit d - 1 below them

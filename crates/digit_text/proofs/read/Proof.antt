@@ -1,43 +1,72 @@
-use mathlib.Core.Path.{_≡_, sym, _∙_}
+use Prim.Native.Nat.{ℕ}
+use mathlib.Core.Path.{_≡_, sym, ap, _∙_}
+use native.Mathlib.Omega.{arith}
 use mir.Facts.{toZ-ofZ}
-use Rattle.words.specs.RoundBit.{roundBitRefused, roundBitDone}
-use Rattle.words.proofs.Arms.{refused-into, done-into}
-use Rattle.digit_text.specs.Reading.{readCheck, readWord, readAnswer, readOf}
+use Rattle.words.specs.RoundBit.{roundBitDone, roundBitRefused}
+use Rattle.words.specs.declared.Cause.{Cause}
+use Rattle.words.specs.declared.Outcome.the-variants.{Done, Refused}
+use Rattle.words.specs.declared.RoundBitWord.{RoundBitWord}
+use Rattle.words.proofs.Arms.{refusing, answering}
+use Rattle.digit_text.specs.declared.Finding.{Finding}
+use Rattle.digit_text.specs.declared.ReadAnswer.{ReadAnswer}
+use Rattle.digit_text.specs.Reading.{readCheck, placeOf, finding, readWord, readAnswer, readRefused, readOf}
+use Rattle.digit_text.proofs.Places.{place-fits}
 use borrow.Author.Needs.{needs}
 use Rattle.digit_text.proofs.read.Statement.{statement}
 use Rattle.digit_text.proofs.read.Tie as tie
 
-checked : (c : tie.After-read-check) → c .read-check .result ≡ readCheck (c .before .before .args .text .now) (c .before .before .args .unit)
-checked c = c .read-check .ensures ∙ rw (toZ-ofZ (c .before .before .fits .unit))
+-- the two answers, by their place
+abbrev refusedAt : Cause → ℕ → ReadAnswer
+refusedAt c k = record { outcome = Refused c; word = roundBitRefused c .word; place = k }
 
--- the place where the check was passed, before a word is made
-module _ (c : tie.After-read-word) where
-  abbrev passed : tie.After-read-check
-  passed = c .before .before .before
+abbrev doneAt : RoundBitWord → ℕ → ReadAnswer
+doneAt w k = record { outcome = Done; word = w; place = k }
 
-  made : let a = passed .before .before .args in c .read-word .result ≡ readWord (a .text .now) (a .unit)
-  made = c .read-word .ensures ∙ rw (toZ-ofZ (passed .before .before .fits .unit))
+-- what the check found: an outcome, and a place that fits
+module _ (c : tie.After-read-check) where
+  abbrev s : tie.Start
+  s = c .before .before
+
+  checked : c .read-check .result ≡ finding (s .args .text .now) (readCheck (s .args .text .now) (s .args .unit))
+  checked = c .read-check .ensures ∙ rw (toZ-ofZ (s .fits .unit))
+
+  outcome : c .read-check .result .outcome ≡ readCheck (s .args .text .now) (s .args .unit)
+  outcome = ap (λ (f : Finding). f .outcome) checked
+
+  place : c .read-check .result .place ≡ placeOf (s .args .text .now) (readCheck (s .args .text .now) (s .args .unit))
+  place = ap (λ (f : Finding). f .place) checked
+
+cast-place : tie.Need-cast-place
+cast-place c = let b = c .before in rw (place b) (omega (arith, place-fits (s b .args .text .now) (s b .args .unit)))
 
 read-word-requires : tie.Need-read-word-requires
-read-word-requires c κs = sym (c .before .before .read-check .ensures) ∙ c .enum-told .given .1
+read-word-requires c κs =
+    let b = c .before .before .before in
+    rw (toZ-ofZ (s b .fits .unit)) (sym (outcome b) ∙ c .enum-told .given .1)
 
 returns : tie.Need-returns
 unfolding readOf
 returns c =
-    let b = c .before .before in
-    refused-into readAnswer roundBitRefused _ _ _ _ _ (checked (b .before .before)) (b .c .given .1) (c .read-refused .ensures)
+    let b = c .before .before .before .before .before in
+    let refused = c .before .before .o .given .1 in
+    let told = place b ∙ ap (placeOf (s b .args .text .now)) (sym (outcome b) ∙ refused) in
+    refusing (readRefused (s b .args .text .now)) _ _ _ _ _ (outcome b) refused (c .read-refused .ensures ∙ ap (refusedAt _) told)
 
 returns-2 : tie.Need-returns-2
-unfolding readOf
+unfolding readOf placeOf
 returns-2 c =
-    let b = c .before in
-    done-into readAnswer roundBitRefused roundBitDone _ _ _ _ _ (checked (passed b)) (b .before .enum-told .given .1) (made b) (c .read-done .ensures)
+    let b = c .before .before .before .before .before in
+    let done = c .before .before .enum-told .given .1 in
+    let told : b .read-check .result .place ≡ 0 = place b ∙ ap (placeOf (s b .args .text .now)) (sym (outcome b) ∙ done) in
+    let made : c .before .read-word .result ≡ readWord (s b .args .text .now) (s b .args .unit) = c .before .read-word .ensures ∙ rw (toZ-ofZ (s b .fits .unit)) in
+    answering (readRefused (s b .args .text .now)) (λ w. readAnswer (roundBitDone w)) _ _ _ _ _ (outcome b) done made (c .read-done .ensures ∙ ap (doneAt _) told)
 
 pub read-spec : {M : Type 1} → statement M
 read-spec =
     tie.close
     (tie.spec
     (λ c κs. search needs)
+    cast-place
     (λ c. search needs)
     (λ c κs. search needs)
     (λ c. search needs)

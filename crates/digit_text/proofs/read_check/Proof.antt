@@ -1,42 +1,38 @@
-use mathlib.Core.Path.{_≡_, _∙_}
+use mathlib.Core.Path.{_≡_, sym, _∙_}
 use mir.Facts.{toZ-ofZ}
-use Rattle.words.specs.Words.{badUnit}
-use Rattle.words.specs.Refusals.{refuseFor}
-use Rattle.words.specs.declared.Cause.the-variants.{Unit}
-use Rattle.digit_text.specs.Reading.{faulty, readCheck}
+use lib.ListN.{length}
+use Rattle.words.specs.Refusals.{formatCheck}
+use Rattle.words.specs.Formats.{format}
+use Rattle.words.specs.declared.Format.{Format}
+use Rattle.digit_text.specs.Reading.{readCheck}
+use Rattle.digit_text.proofs.Places.{format-place}
 use borrow.Author.Needs.{needs}
 use Rattle.digit_text.proofs.read_check.Statement.{statement}
 use Rattle.digit_text.proofs.read_check.Tie as tie
 
-module _ (c : tie.After-refuse-for2) where
+module _ (c : tie.After-format-check) where
   abbrev s : tie.Start
-  s = c .before .before .before .before .before
+  s = c .before .before
 
-  unit-checked : c .refuse-for2 .result ≡ refuseFor Unit (badUnit (s .args .unit))
-  unit-checked = c .refuse-for2 .ensures ∙ rw (toZ-ofZ (s .fits .unit))
+  abbrev form : Format
+  form = format (length (s .args .text .now)) (s .args .unit)
+
+  checked : c .format-check .result ≡ formatCheck form
+  checked = c .format-check .ensures ∙ rw (toZ-ofZ (s .fits .unit))
 
 returns : tie.Need-returns
 unfolding readCheck
-returns c = rw (← c .before .before .before .refuse-for .ensures, c .before .c .given .1)
+returns c =
+    let b = c .before .before .before .before in
+    let refused = sym (checked b) ∙ c .before .before .c .given .1 in
+    let none-told = rw refused at (format-place (s b .args .text .now) (form b)) in
+    c .refused-at .ensures ∙ rw (refused, none-told)
 
 returns-2 : tie.Need-returns-2
 unfolding readCheck
 returns-2 c =
     let b = c .before .before .before in
-    rw (← b .before .before .before .refuse-for .ensures, b .before .enum-told .given .1, ← unit-checked b, c .before .c2 .given .1)
-
-returns-3 : tie.Need-returns-3
-unfolding readCheck faulty
-returns-3 c =
-    let b = c .before .before .before .before in
-    rw (
-      ← b .before .before .before .refuse-for .ensures,
-      b .before .enum-told .given .1,
-      ← unit-checked b,
-      c .before .before .enum-told2 .given .1,
-      c .refuse-for3 .ensures,
-      c .before .first-fault .ensures,
-    )
+    c .fault-check .ensures ∙ rw (← checked b, c .before .enum-told .given .1)
 
 pub read-check-spec : {M : Type 1} → statement M
 read-check-spec =
@@ -44,12 +40,8 @@ read-check-spec =
     (tie.spec
     (λ c κs. search needs)
     (λ c. search needs)
-    (λ c. search needs)
     (λ c κs. search needs)
     (λ c. search needs)
-    (λ c. search needs)
-    (λ c κs. search needs)
     (λ c κs. search needs)
     returns
-    returns-2
-    returns-3)
+    returns-2)

@@ -9,7 +9,8 @@ use mir.Val.{SFits, toZ}
 use Rattle.integers.proofs.Kit.{ints, abs-law, minus-law}
 use Rattle.digit_text.specs.Digits.{textValue}
 use Rattle.digit_text.specs.Reading.{readRound, readWord}
-use Rattle.digit_text.proofs.Scan.{value-small, round-le, read-right}
+use Rattle.digit_text.proofs.Scan.{value-small, round-le}
+use Rattle.digit_text.proofs.Places.{read-right}
 use borrow.Author.Needs.{needs}
 use Rattle.digit_text.proofs.read_word.Statement.{statement}
 use Rattle.digit_text.proofs.read_word.Tie as tie
