@@ -44,6 +44,10 @@ static int sum(frost_sum_answer a, frost_round_bit kept, frost_round_bit w, uint
 {
     return same(a.sum.kept, kept) && a.sum.depth == 2 && same(a.word, w) && a.refusal == refusal;
 }
+static int reading(frost_text_answer a, frost_round_bit w, uint32_t refusal, uint32_t place)
+{
+    return same(a.word, w) && a.refusal == refusal && a.place == place;
+}
 static int written(frost_written a, uint64_t bytes, uint32_t refusal)
 {
     return a.bytes == bytes && a.refusal == refusal;
@@ -142,13 +146,29 @@ static void texts_and_files(void)
     HOLDS(written(frost_digit_text_write(rb(-718, 0, 11, 3), text, 10), 0, 10) && text[0] == '?');
     HOLDS(written(frost_digit_text_write(rb(-718, 0, 11, 3), text, 32), 11, 0));
     HOLDS(memcmp(text, "-+-0+0-0+-0?", 12) == 0);
-    HOLDS(round_bit(frost_digit_text_read((const uint8_t *)"+-", 2, 3), rb(1, 0, 2, 3), 0));
+    HOLDS(reading(frost_digit_text_read((const uint8_t *)"+-", 2, 3), rb(1, 0, 2, 3), 0, 0));
     HOLDS(head(frost_file_read(lent, 11, numbers, 3, rounds, 3), 0, 2, 0, 0, 12) && numbers[0] == 7 && rounds[0] == 7);
     HOLDS(head(frost_file_read(lent, 22, numbers, 3, rounds, 3), 1, 5, -2, 2, 0));
     HOLDS(numbers[0] == 11 && numbers[1] == -1 && numbers[2] == 7 && rounds[0] == 1 && rounds[1] == 1 && rounds[2] == 7);
     HOLDS(written(frost_file_write(1, 5, -2, numbers, 2, rounds, 2, file, 32), 22, 0));
     HOLDS(memcmp(file, lent, 22) == 0 && file[22] == 7);
     HOLDS(written(frost_listing_text(lent, 22, text, 32), 29, 0) && memcmp(text, listing, 29) == 0 && text[29] == '?');
+}
+
+/* Where a digit text is wrong. */
+static frost_text_answer read_digits(const char *text)
+{
+    return frost_digit_text_read((const uint8_t *)text, strlen(text), 3);
+}
+static void places(void)
+{
+    char many[65] = "";
+    memset(many, 'x', 64);
+    HOLDS(reading(read_digits("+ +"), rb(0, 0, 2, 0), FROST_REFUSED_BYTE, 1));
+    HOLDS(reading(read_digits("+0+"), rb(0, 0, 2, 0), FROST_REFUSED_DIGIT_TEXT, 2));
+    HOLDS(reading(read_digits("++-"), rb(0, 0, 2, 0), FROST_REFUSED_DIGIT_TEXT, 1));
+    HOLDS(reading(read_digits("+0-0-+?"), rb(0, 0, 2, 0), FROST_REFUSED_BYTE, 6));
+    HOLDS(reading(read_digits(many), rb(0, 0, 2, 0), FROST_REFUSED_WIDTH, 0));
 }
 
 /* What the header says of the whole library, tried at both sides of each limit. */
@@ -159,7 +179,7 @@ static void limits(void)
     size_t most = FROST_MOST_RECORDS;
     HOLDS(frost_version() == FROST_VERSION);
     HOLDS(strcmp(frost_refusal_text(FROST_REFUSED_WIDTH_PAST), "the answer's width would pass 63") == 0);
-    HOLDS(strcmp(frost_refusal_text(13), "no refusal has this number") == 0);
+    HOLDS(strcmp(frost_refusal_text(18), "no refusal has this number") == 0);
     HOLDS(frost_round_bit_sign_change(rb(0, 0, FROST_LEAST_WIDTH, FROST_LEAST_UNIT)).refusal == FROST_DONE);
     HOLDS(frost_round_bit_sign_change(rb(0, 0, FROST_MOST_WIDTH, FROST_MOST_UNIT)).refusal == FROST_DONE);
     HOLDS(frost_round_bit_sign_change(rb(0, 0, FROST_LEAST_WIDTH - 1, 0)).refusal == FROST_REFUSED_WIDTH);
@@ -186,6 +206,7 @@ int main(void)
     running_sums();
     filter_bank();
     texts_and_files();
+    places();
     limits();
     return failed;
 }

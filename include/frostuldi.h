@@ -20,7 +20,7 @@ extern "C" {
 #endif
 
 /* The version that this header declares, as 10000 * major + 100 * minor + patch. frost_version() tells the archive's. */
-#define FROST_VERSION 10200
+#define FROST_VERSION 10300
 
 /* What `refusal` says. frost_refusal_text() has each in words. */
 enum frost_refusal {
@@ -37,6 +37,7 @@ enum frost_refusal {
     FROST_REFUSED_BUFFER = 10,
     FROST_REFUSED_MARK = 11,
     FROST_REFUSED_FORM = 12,
+    FROST_REFUSED_BYTE = 13,
     FROST_REFUSED_CHANNEL = 17
 };
 
@@ -80,6 +81,10 @@ typedef struct { frost_round_bit taps[8]; } frost_taps;
 typedef struct { frost_taps channels[4]; } frost_bank;
 typedef struct { frost_round_bit samples[8]; } frost_window;
 
+/* `place` is that of the byte which a 13 or a 9 is for, counted from 0 at the most significant end, the first byte of
+ * the text; 0 with every other answer, done too. */
+typedef struct { frost_round_bit word; uint32_t refusal, place; } frost_text_answer;
+
 typedef struct { uint32_t refusal, kind, width; int32_t unit; uint32_t count; } frost_file_head;
 typedef struct { uint64_t bytes; uint32_t refusal; } frost_written;
 
@@ -108,11 +113,11 @@ static inline const char *frost_refusal_text(uint32_t refusal)
         return "the answer's unit exponent, or that of the products of a filter bank's channel, would leave -127 to 127";
     case FROST_REFUSED_NUMBER_PAST: return "the answer's number does not fit its width";
     case FROST_REFUSED_DIGIT_TEXT:
-        return "a digit text has a byte that is not `+`, `0` or `-`, or two nonzero digits of one sign with nothing or "
-               "only zeros between them";
+        return "a digit text has two nonzero digits of one sign with nothing or only zeros between them";
     case FROST_REFUSED_BUFFER: return "a lent buffer is too short for what would be written";
     case FROST_REFUSED_MARK: return "a file's mark or version is wrong";
     case FROST_REFUSED_FORM: return "a file's length, kind or count is wrong";
+    case FROST_REFUSED_BYTE: return "a digit text has a byte that is not `+`, `0` or `-`";
     case FROST_REFUSED_CHANNEL: return "the channel that a filter bank is asked for is over 3";
     default: return "no refusal has this number";
     }
@@ -160,9 +165,14 @@ frost_sum_answer frost_running_sum_empty(frost_running_sum s);                  
  * The other channels' taps are not looked at. 8 never occurs. */
 frost_round_bit_answer frost_bank_output(frost_bank bank, frost_window window, uint32_t channel);
 
-/* Digit texts: `width` bytes, most significant first; the count of bytes written, 0 when refused. */
-frost_written frost_digit_text_write(frost_round_bit w, uint8_t *text, size_t room);                   /* 1, 2, 3, 10 */
-frost_round_bit_answer frost_digit_text_read(const uint8_t *text, size_t length, int32_t unit); /* 1, 2, 9 */
+/* Digit texts: `width` bytes, most significant first; the count of bytes written, 0 when refused. Reading refuses, in
+ * this order,
+ *   1   a length that is no width;
+ *   2   the unit;
+ *   13  a byte that is not `+`, `0` or `-`: the place is that of the leftmost;
+ *   9   repeated signs: the place is that of the leftmost sign that repeats the sign before it. */
+frost_written frost_digit_text_write(frost_round_bit w, uint8_t *text, size_t room); /* 1, 2, 3, 10 */
+frost_text_answer frost_digit_text_read(const uint8_t *text, size_t length, int32_t unit);
 
 /* Block files: reading fills the first `count` places of both buffers; refused, kind, width, unit and count are 0,
  * 2, 0 and 0. Reading refuses 12, 11, 12, 1, 2, 3, 10 in this order, writing 12, 1, 2, 3, 10. */

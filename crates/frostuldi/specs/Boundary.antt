@@ -13,6 +13,7 @@ use Rattle.words.specs.Plain.{plainWord}
 use Rattle.words.specs.RoundBit.{roundBitWord}
 use Rattle.words.specs.HalfUnit.{halfUnitWord}
 use Rattle.running_sum.specs.declared.RunningSum.{RunningSum}
+use Rattle.digit_text.specs.declared.ReadAnswer.{ReadAnswer as TextAnswer}
 use Rattle.block_file.specs.declared.ReadAnswer.{ReadAnswer}
 use Rattle.frostuldi.specs.declared.FrostPlain.{FrostPlain}
 use Rattle.frostuldi.specs.declared.FrostHalfUnit.{FrostHalfUnit}
@@ -25,12 +26,13 @@ use Rattle.frostuldi.specs.declared.FrostSumAnswer.{FrostSumAnswer}
 use Rattle.frostuldi.specs.declared.FrostTaps.{FrostTaps}
 use Rattle.frostuldi.specs.declared.FrostBank.{FrostBank}
 use Rattle.frostuldi.specs.declared.FrostWindow.{FrostWindow}
+use Rattle.frostuldi.specs.declared.FrostTextAnswer.{FrostTextAnswer}
 use Rattle.frostuldi.specs.declared.FrostFileHead.{FrostFileHead}
 use Rattle.frostuldi.specs.declared.FrostWritten.{FrostWritten}
 
 -- which library this is: 10000 * major + 100 * minor + patch
 abbrev pub version : ℕ
-version = 10200
+version = 10300
 
 -- what comes in
 abbrev pub plainIn : FrostPlain → PlainWord
@@ -87,6 +89,13 @@ sumOut o w s = record {
   sum = flatSum s;
   word = flatRoundBit w;
   refusal = numberOf o;
+}
+
+abbrev pub textOut : TextAnswer → FrostTextAnswer
+textOut a = record {
+  word = flatRoundBit (a .word);
+  refusal = numberOf (a .outcome);
+  place = a .place;
 }
 
 abbrev pub headOut : ReadAnswer → FrostFileHead

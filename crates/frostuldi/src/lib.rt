@@ -24,8 +24,9 @@ ghost use Rattle.block_file.specs.Layout.{block};
 ghost use Rattle.block_file.specs.Reading.{readOf as fileReadOf, numbersAfter, roundsAfter};
 ghost use Rattle.block_file.specs.Writing.{writeOf as fileWriteOf, fileAfter};
 ghost use Rattle.listing_text.specs.Listing.{listOf, textAfter};
-ghost use Rattle.frostuldi.specs.Boundary.{version, plainIn, halfUnitIn, roundBitIn, sumIn, tapsIn, windowIn, bankIn, flatPlain, flatHalfUnit, flatRoundBit, plainOut, halfUnitOut, roundBitOut, sumOut, headOut, writtenOut};
+ghost use Rattle.frostuldi.specs.Boundary.{version, plainIn, halfUnitIn, roundBitIn, sumIn, tapsIn, windowIn, bankIn, flatPlain, flatHalfUnit, flatRoundBit, plainOut, halfUnitOut, roundBitOut, sumOut, textOut, headOut, writtenOut};
 use block_file::ReadAnswer;
+use digit_text::ReadAnswer as TextAnswer;
 use running_sum::RunningSum;
 use words::Format;
 use words::HalfUnit;
@@ -108,6 +109,13 @@ pub struct FrostBank {
 #[repr(C)]
 pub struct FrostWindow {
     pub samples: [FrostRoundBit; 8],
+}
+
+#[repr(C)]
+pub struct FrostTextAnswer {
+    pub word: FrostRoundBit,
+    pub refusal: u32,
+    pub place: u32,
 }
 
 #[repr(C)]
@@ -319,6 +327,18 @@ fn sum_out(o: Outcome, w: RoundBitWord, s: RunningSum) -> FrostSumAnswer
         sum: sum,
         word: word,
         refusal: words::number_of(o),
+    }
+}
+
+fn text_out(a: TextAnswer) -> FrostTextAnswer
+    ensures { λ r. ⌜ r ≡ textOut a ⌝ }
+{
+    let word = flat_round_bit(a.word);
+    let o = a.outcome;
+    FrostTextAnswer {
+        word: word,
+        refusal: words::number_of(o),
+        place: a.place,
     }
 }
 
@@ -565,7 +585,7 @@ pub extern "C" fn frost_running_sum_empty(s: FrostRunningSum) -> FrostSumAnswer
 pub extern "C" fn frost_version() -> u32
     ensures { λ r. ⌜ r ≡ version ⌝ }
 {
-    10200
+    10300
 }
 
 // Digit texts, block files and listings.
@@ -579,12 +599,10 @@ pub extern "C" fn frost_digit_text_write(w: FrostRoundBit, text: &mut [u8]) -> F
 }
 
 #[no_mangle]
-pub extern "C" fn frost_digit_text_read(text: &[u8], unit: i32) -> FrostRoundBitAnswer
-    ensures { λ r. ⌜ r ≡ roundBitOut ((textReadOf (now (text .entry)) unit) .outcome) ((textReadOf (now (text .entry)) unit) .word) ⌝ }
+pub extern "C" fn frost_digit_text_read(text: &[u8], unit: i32) -> FrostTextAnswer
+    ensures { λ r. ⌜ r ≡ textOut (textReadOf (now (text .entry)) unit) ⌝ }
 {
-    let a = digit_text::read(text, unit);
-    let o = a.outcome;
-    round_bit_out(o, a.word)
+    text_out(digit_text::read(text, unit))
 }
 
 #[no_mangle]

@@ -4,7 +4,7 @@ use Rattle.frostuldi.proofs.frost_digit_text_read.Statement.{statement}
 use Rattle.frostuldi.proofs.frost_digit_text_read.Tie as tie
 
 returns : tie.Need-returns
-returns c = rw (c .round-bit-out .ensures, c .before .read .ensures, toZ-ofZ (c .before .before .before .fits .unit))
+returns c = rw (c .text-out .ensures, c .before .read .ensures, toZ-ofZ (c .before .before .before .fits .unit))
 
 pub frost-digit-text-read-spec : {M : Type 1} → statement M
 frost-digit-text-read-spec = tie.close (tie.spec (λ c κs. search needs) (λ c κs. search needs) returns)
