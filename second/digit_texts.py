@@ -1,9 +1,10 @@
 #!/usr/bin/env python3
-"""Print what writing and reading digit texts of round-bit words must answer, by document 01.
+"""Print what writing and reading digit texts of round-bit words answer, by documents 01 and 02.
 
 Writing: `write N A R OUTCOME COUNT BUFFER`, the word (A, R) of width N and unit 0 written
 into a buffer of `?` bytes; COUNT bytes are written, BUFFER is the whole buffer afterwards.
-Reading: `read TEXT OUTCOME NUMBER ROUNDBIT WIDTH UNIT`, the answered word.
+Reading: `read TEXT OUTCOME NUMBER ROUNDBIT WIDTH UNIT PLACE`, the answered word and the
+place of what is wrong in the text, 0 where nothing is or where it is no byte of it.
 """
 
 from itertools import product
@@ -37,29 +38,42 @@ def write(n, e, a, r, size):
 
 def read(text, e):
     n = len(text)  # "its length is the width"
+    # "Done and the other refusals give place 0."
     if not width_is_good(n):
-        return WIDTH_OUTSIDE, *BLANK
+        return WIDTH_OUTSIDE, *BLANK, 0
     if not unit_is_good(e):
-        return UNIT_OUTSIDE, *BLANK
-    # 9: "a byte that is not `+`, `0` or `-`, or two nonzero digits of one sign with
-    # nothing or only zeros between them"
-    nonzero = text.replace("0", "")
-    if set(text) - set("+0-") or "++" in nonzero or "--" in nonzero:
-        return TEXT_WRONG, *BLANK
+        return UNIT_OUTSIDE, *BLANK, 0
+    # "13 stands directly before 9; a text with both faults gives 13"
+    # 13: "a byte outside the three"; "it is the leftmost such byte"
+    strange = [place for place in range(n) if text[place] not in "+0-"]
+    if strange:
+        return BYTE_WRONG, *BLANK, min(strange)
+    # 9: "two nonzero digits of one sign with nothing or only zeros between them"; "it is the
+    # leftmost sign that repeats the sign before it"
+    signs = [place for place in range(n) if text[place] in "+-"]
+    repeated = [place for before, place in zip(signs, signs[1:]) if text[before] == text[place]]
+    if repeated:
+        return SIGN_REPEATED, *BLANK, min(repeated)
     if set(text) == {"0"}:  # "All zeros reads as (0,0)"
-        return DONE, 0, 0, n, e
+        return DONE, 0, 0, n, e, 0
     # "the answer is the word whose digit text it is": the one among all words
     (a, r), = [(a, r) for a in range(-2**(n - 1), 2**(n - 1)) for r in (0, 1)
                if digit_text(n, a, r) == text]
-    return DONE, a, r, n, e
+    return DONE, a, r, n, e, 0
 
 
 # "`-+-0+0-0+-0`" (P6); "Digit text `+0+` gives 9; `+-` with unit 0 reads as (1,0), width 2";
 # "`0+` is (0,1)"
 assert write(11, 0, -718, 0, 12) == (0, 11, "-+-0+0-0+-0?")
-assert read("+-", 0) == (0, 1, 0, 2, 0)
-assert read("+0+", 0) == (9, *BLANK)
-assert read("0+", 0) == (0, 0, 1, 2, 0)
+assert read("+-", 0) == (0, 1, 0, 2, 0, 0)
+assert read("+0+", 0) == (9, *BLANK, 2)
+assert read("0+", 0) == (0, 0, 1, 2, 0, 0)
+# Ask 3: "a stray blank", "two plus signs", "a text with both faults", "the other refusals"
+assert read("+ +", 0) == (13, *BLANK, 1)
+assert read("++-", 0) == (9, *BLANK, 1)
+assert read("+0-0-+?", 0) == (13, *BLANK, 6)
+assert read("x" * 64, 0) == (1, *BLANK, 0)
+assert read("x+", 128) == (2, *BLANK, 0)
 
 for n in range(LEAST_WIDTH, 7):
     for a in range(-2**(n - 1), 2**(n - 1)):
@@ -72,3 +86,5 @@ for n in range(5):
         print("read", "".join(letters), *read("".join(letters), 0))
 for e in (LEAST_UNIT - 1, LEAST_UNIT, 0, MOST_UNIT, MOST_UNIT + 1):
     print("read", "+-", *read("+-", e))
+for text in ("+ +", "+0+", "++-", "+0-0-+?", "x" * (MOST_WIDTH + 1)):
+    print("read", text, *read(text, 0))

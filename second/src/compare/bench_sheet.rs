@@ -1,6 +1,7 @@
 //! The bench sheet of document 01, line by line. Here both programs are held
 //! against the document's own answers, not only against each other; so its
 //! numbers stand here as they stand there, and not under the model's names.
+//! What the texts answer beside these, the place, is document 02's, Ask 3.
 
 use super::blocks;
 use super::call::compare;
@@ -12,6 +13,7 @@ use super::operations::{row_of, HAND_OUT, OPEN, PUT};
 use super::random::Random;
 use super::tally::Record;
 use super::texts;
+use crate::model::digit_text::TextAnswer;
 use crate::model::kinds::ROUND_BIT;
 use crate::model::running_sum::RunningSum;
 use crate::model::words::{Fields, RoundBit, Word};
@@ -178,14 +180,19 @@ fn digit_texts(record: &mut Record) {
             String::from_utf8_lossy(&text)
         )
     });
-    let reply = texts::compare_read(b"+0+", 0, record);
-    expect("`+0+`", reply, 9, BLANK, record);
-    let reply = texts::compare_read(b"+-", 0, record);
-    expect("`+-`", reply, 0, fields(1, 0, 2, 0), record);
-    let reply = texts::compare_read(b"0+", 0, record);
-    expect("`0+`", reply, 0, fields(0, 1, 2, 0), record);
-    let reply = texts::compare_read(b"0000", 0, record);
-    expect("`0000`", reply, 0, fields(0, 0, 4, 0), record);
+    reads(b"+0+", 9, BLANK, 2, record);
+    reads(b"+-", 0, fields(1, 0, 2, 0), 0, record);
+    reads(b"0+", 0, fields(0, 1, 2, 0), 0, record);
+    reads(b"0000", 0, fields(0, 0, 4, 0), 0, record);
+}
+
+fn reads(text: &[u8], refusal: u32, word: Fields, place: i128, record: &mut Record) {
+    let by_hand = TextAnswer {
+        word: RoundBit::made(word),
+        refusal,
+        place,
+    };
+    texts::expect_read("bench sheet, a text read", text, 0, by_hand, record);
 }
 
 fn block_files(record: &mut Record) {

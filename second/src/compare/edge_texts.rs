@@ -73,7 +73,7 @@ fn with_ends(length: usize, first: u8, last: u8) -> Vec<u8> {
     text
 }
 
-fn alternating(length: usize, first: u8) -> Vec<u8> {
+pub fn alternating(length: usize, first: u8) -> Vec<u8> {
     let other = if first == b'+' { b'-' } else { b'+' };
     (0..length)
         .map(|i| if i % 2 == 0 { first } else { other })

@@ -108,7 +108,7 @@ fn write_texts(record: &mut Record) {
 fn read_texts(record: &mut Record) {
     for strange in STRANGE {
         for length in 0..=WIDEST {
-            for text in texts_over([b'+', b'0', b'-', strange], length) {
+            for text in texts_over(&[b'+', b'0', b'-', strange], length) {
                 for unit in [0, LEAST_UNIT, MOST_UNIT, LEAST_UNIT - 1, MOST_UNIT + 1] {
                     texts::compare_read(&text, unit, record);
                 }
@@ -123,14 +123,15 @@ fn read_texts(record: &mut Record) {
     }
 }
 
-/// All texts of one length over four letters.
-fn texts_over(letters: [u8; 4], length: u32) -> Vec<Vec<u8>> {
+/// All texts of one length over these letters.
+pub fn texts_over(letters: &[u8], length: u32) -> Vec<Vec<u8>> {
+    let count = letters.len();
     let one = |index: usize| -> Vec<u8> {
         (0..length)
-            .map(|place| letters[index >> (2 * place) & 3])
+            .map(|place| letters[index / count.pow(place) % count])
             .collect()
     };
-    (0..4usize.pow(length)).map(one).collect()
+    (0..count.pow(length)).map(one).collect()
 }
 
 /// The library's own texts, read by it: every word comes back as itself, but
@@ -149,7 +150,7 @@ fn read_back(record: &mut Record) {
         } else {
             word
         };
-        let good = back.refusal == DONE && back.word == same.fields();
+        let good = back.refusal == DONE && back.word == same.word() && back.place == 0;
         record.check(good, || {
             format!(
                 "a text read back\n  case:    {:?}\n  library: {:?}",

@@ -37,7 +37,7 @@ extern "C" {
     ) -> FrostRoundBitAnswer;
 
     pub fn frost_digit_text_write(word: FrostRoundBit, text: *mut u8, room: usize) -> FrostWritten;
-    pub fn frost_digit_text_read(text: *const u8, length: usize, unit: i32) -> FrostRoundBitAnswer;
+    pub fn frost_digit_text_read(text: *const u8, length: usize, unit: i32) -> FrostTextAnswer;
 
     pub fn frost_file_read(
         file: *const u8,

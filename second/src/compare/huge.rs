@@ -3,7 +3,7 @@
 //! costs no more than its addresses; where even these cannot be had, the part
 //! says so and counts as neither passed nor failed.
 
-use super::case::{Operand, Reply};
+use super::case::Operand;
 use super::fall;
 use super::job::Job;
 use super::library::*;
@@ -110,10 +110,10 @@ fn text_length(huge: &mut Huge, record: &mut Record) {
     huge.hold(b"0+");
     let answer = unsafe { frost_digit_text_read(huge.memory, PAST + 2, 0) };
     record.answer(TEXT_READ, answer.refusal);
-    let library: Reply = answer.model().into();
+    let library = answer.model();
     let after = huge.head();
     huge.hold(b"0+");
-    let second: Reply = digit_text::read(huge.slice(PAST + 2), 0).into();
+    let second = digit_text::read(huge.slice(PAST + 2), 0);
     same(
         "frost_digit_text_read, 2^32 + 2 bytes",
         (library, after),

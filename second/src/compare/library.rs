@@ -5,6 +5,7 @@
 pub use super::functions::*;
 use crate::model::bank::{Bank, Row, CHANNELS, TAPS};
 use crate::model::block_file::Head;
+use crate::model::digit_text::TextAnswer;
 use crate::model::running_sum::{RunningSum, SumAnswer};
 use crate::model::words::{Answer, HalfUnit, Plain, RoundBit, Written};
 
@@ -80,6 +81,34 @@ macro_rules! word {
 word!(FrostPlain, FrostPlainAnswer, Plain);
 word!(FrostHalfUnit, FrostHalfUnitAnswer, HalfUnit);
 word!(FrostRoundBit, FrostRoundBitAnswer, RoundBit, round);
+
+#[repr(C)]
+#[derive(Clone, Copy)]
+pub struct FrostTextAnswer {
+    pub word: FrostRoundBit,
+    pub refusal: u32,
+    pub place: u32,
+}
+
+impl OfModel for FrostTextAnswer {
+    type Model = TextAnswer;
+
+    fn of(model: TextAnswer) -> FrostTextAnswer {
+        FrostTextAnswer {
+            word: OfModel::of(model.word),
+            refusal: model.refusal,
+            place: model.place as u32,
+        }
+    }
+
+    fn model(self) -> TextAnswer {
+        TextAnswer {
+            word: self.word.model(),
+            refusal: self.refusal,
+            place: self.place as i128,
+        }
+    }
+}
 
 #[repr(C)]
 #[derive(Clone, Copy)]

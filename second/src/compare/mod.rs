@@ -31,6 +31,10 @@ mod library;
 mod limits;
 mod listings;
 mod operations;
+mod place_laws;
+mod place_sheet;
+mod place_texts;
+mod places;
 mod random;
 mod random_cases;
 mod sums;
@@ -67,6 +71,7 @@ fn all_jobs(seed: u64, program: &str) -> Vec<Job> {
     jobs.extend(huge::jobs());
     jobs.extend(random_cases::jobs(seed));
     jobs.extend(even_cuts::jobs(seed));
+    jobs.extend(places::jobs(seed));
     jobs.extend(sums::jobs(seed));
     jobs.extend(bank::jobs(seed));
     jobs.extend(files::jobs(seed));

@@ -62,8 +62,9 @@ const OF_OPENING: &[u32] =
     &[WIDTH_OUTSIDE, UNIT_OUTSIDE, DEPTH_OUTSIDE, ANSWER_UNIT_OUTSIDE];
 const OF_BANK: &[u32] = and_of_words![OPERANDS_DIFFER, ANSWER_UNIT_OUTSIDE, CHANNEL_OUTSIDE];
 const OF_TEXT: &[u32] = and_of_words![BUFFER_TOO_SHORT];
-/// A text has a width (its length) and a unit, but no number of its own.
-const OF_TEXT_READ: &[u32] = &[WIDTH_OUTSIDE, UNIT_OUTSIDE, TEXT_WRONG];
+/// A text has a width (its length) and a unit, but no number of its own; its
+/// bytes give 13 and 9.
+const OF_TEXT_READ: &[u32] = &[WIDTH_OUTSIDE, UNIT_OUTSIDE, BYTE_WRONG, SIGN_REPEATED];
 #[rustfmt::skip]
 const OF_FILE_READ: &[u32] =
     and_of_words![BUFFER_TOO_SHORT, MARK_OR_VERSION_WRONG, LENGTH_KIND_OR_COUNT_WRONG];

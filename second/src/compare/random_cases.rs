@@ -219,13 +219,17 @@ fn read_texts(seed: u64, record: &mut Record) {
     }
 }
 
-/// Alternating signs among zeros; the zeros are seldom or many.
 fn good_text(random: &mut Random) -> Vec<u8> {
     let length = if random.once_in(20) {
         random.below(130)
     } else {
         LEAST_WIDTH as u64 + random.below(WIDTHS)
     };
+    good_text_of(random, length as usize)
+}
+
+/// Alternating signs among zeros; the zeros are seldom or many.
+pub fn good_text_of(random: &mut Random, length: usize) -> Vec<u8> {
     let zeros = random.one_of(&[2, 3, 10, 60]);
     let mut sign = random.one_of(&[b'+', b'-']);
     let mut text = Vec::new();

@@ -1,13 +1,13 @@
 //! The two operations of the digit text, called in both programs on one case.
 
-use super::case::{Case, Operand, Reply};
+use super::case::{Case, Operand};
 use super::fall;
 use super::lent::Lent;
 use super::library::*;
 use super::operations::{TEXT_READ, TEXT_WRITE};
 use super::tally::Record;
 use crate::model::causes::DONE;
-use crate::model::digit_text;
+use crate::model::digit_text::{self, TextAnswer};
 use crate::model::words::RoundBit;
 
 /// Writes a word's text into a buffer of the room given; gives back what the
@@ -37,25 +37,24 @@ pub fn compare_write(word: Operand, room: usize, record: &mut Record) -> Vec<u8>
     library_text.content().to_vec()
 }
 
-/// Reads a text; it is lent, so it must stay as it was.
-pub fn compare_read(text: &[u8], unit: i32, record: &mut Record) -> Reply {
+/// Reads a text; it is lent, so it must stay as it was. The library's answer,
+/// with its place, is given back.
+pub fn compare_read(text: &[u8], unit: i32, record: &mut Record) -> TextAnswer {
     let mut lent = Lent::holding_bytes(text, record.cases);
     let before = lent.clone();
     fall::about_to_call("frost_digit_text_read", None, text);
     let answer = unsafe { frost_digit_text_read(lent.pointer(), text.len(), unit) };
     fall::back();
-    let library: Reply = answer.model().into();
-    let answer = digit_text::read(text, unit as i128);
-    let is_its_text = answer.refusal != DONE || is_text_of(text, answer.word);
-    let second: Reply = answer.into();
+    let library = answer.model();
+    let second = digit_text::read(text, unit as i128);
+    let is_its_text = second.refusal != DONE || is_text_of(text, second.word);
     record.answer(TEXT_READ, library.refusal);
     let agrees = library == second && lent == before && is_its_text;
     record.check(agrees, || {
         format!(
-            "frost_digit_text_read\n  case:    {:?}, unit {}\n  library: {:?}\n  second:  {:?}\n  \
+            "frost_digit_text_read\n  case:    {}\n  library: {:?}\n  second:  {:?}\n  \
              first byte of the text changed: {}, second's word has this text: {}",
-            String::from_utf8_lossy(text),
-            unit,
+            described(text, unit),
             library,
             second,
             lent.first_difference(&before),
@@ -63,6 +62,23 @@ pub fn compare_read(text: &[u8], unit: i32, record: &mut Record) -> Reply {
         )
     });
     library
+}
+
+/// Holds the library's reading against an answer that is worked out by hand.
+pub fn expect_read(line: &str, text: &[u8], unit: i32, by_hand: TextAnswer, record: &mut Record) {
+    let library = compare_read(text, unit, record);
+    record.check(library == by_hand, || {
+        let given = described(text, unit);
+        format!(
+            "{}\n  case:    {}\n  library: {:?}\n  by hand: {:?}",
+            line, given, library, by_hand
+        )
+    });
+}
+
+/// Each byte stands for itself, so that a place can be counted off.
+pub fn described(text: &[u8], unit: i32) -> String {
+    format!("\"{}\", unit {}", text.escape_ascii(), unit)
 }
 
 /// "The answer is the word whose digit text it is": asked of the second

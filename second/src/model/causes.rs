@@ -1,5 +1,6 @@
 //! Document 01, section "Refusal numbers": the table, with what document 02
-//! adds to it, and the order in which several causes are named.
+//! adds to it and changes in it, and the order in which several causes are
+//! named.
 //! Written from documents 01 and 02 alone; it shares nothing with crates/.
 
 /// Makes a name of each number, and the list of them all.
@@ -25,10 +26,11 @@ causes! {
     6 ANSWER_TOO_WIDE,
     7 ANSWER_UNIT_OUTSIDE,
     8 ANSWER_DOES_NOT_FIT,
-    9 TEXT_WRONG,
+    9 SIGN_REPEATED,
     10 BUFFER_TOO_SHORT,
     11 MARK_OR_VERSION_WRONG,
     12 LENGTH_KIND_OR_COUNT_WRONG,
+    13 BYTE_WRONG,
     17 CHANNEL_OUTSIDE,
 }
 
