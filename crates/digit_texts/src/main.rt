@@ -1,7 +1,8 @@
-// Writes every word of widths 2 to 6 as a digit text, and reads every text of up to four bytes.
+// Writes every word of widths 2 to 6 as a digit text, and reads every text of up to four bytes, and some
+// longer ones, with the place of what is wrong.
 //
 // Buffers begin as question marks, so that it shows which bytes were written. What it must print comes
-// from second/digit_texts.py, which was written from document 01 alone.
+// from second/digit_texts.py, which was written from the documents alone.
 use digit_text::ReadAnswer;
 use libc::STDOUT_FILENO;
 use words::Format;
@@ -120,6 +121,7 @@ fn print_read(text: &[u8], a: ReadAnswer) {
     print_count(w.number.1 as u64);
     print_count(w.format.width as u64);
     print_signed(integers::wide(w.format.unit));
+    print_count(a.place as u64);
     print_text(b"\n");
 }
 
@@ -183,6 +185,12 @@ fn readings() {
     read(b"+-", 0);
     read(b"+-", 127);
     read(b"+-", 128);
+    read(b"+ +", 0);
+    read(b"+0+", 0);
+    read(b"++-", 0);
+    read(b"+0-0-+?", 0);
+    let many = [b'x'; 64];
+    read(&many, 0);
 }
 
 fn main() {
