@@ -13,6 +13,7 @@ use borrow.Author.Tests.{eqb-true}
 use Rattle.integers.specs.Numbers.{fitsWidth, floorBy, lowest, cleared}
 use Rattle.integers.specs.Numbers.{digit, digitsBelow, anyBelow, lowDigits}
 use Rattle.integers.specs.Bytes.{sameBytes}
+use Rattle.integers.specs.Lists.{firstBad}
 use Rattle.integers.proofs.Kit.{and-both}
 use Rattle.integers.proofs.Width.{eqZ-same}
 use Rattle.integers.proofs.Bytes.{same-bytes}
@@ -38,7 +39,10 @@ use Rattle.half_unit.specs.Conversions.{fromPlainUpWord, evenFloor, fromPlainEv
 use Rattle.half_unit.specs.Arithmetic.{sumUpWord, sumEvenWord}
 use Rattle.half_unit.specs.Arithmetic.{multiplied as halfMultiplied, productWord as halfProductWord}
 use Rattle.digit_text.specs.Digits.{signedDigit, byteOf, byteAt, text as textOf}
-use Rattle.digit_text.specs.Digits.{writeCheck, writeOf, bufferOf}
+use Rattle.digit_text.specs.Digits.{writeCheck, writeOf, bufferOf, digitOf, textValue, signBefore}
+use Rattle.digit_text.specs.Reading.{strangeAt, repeatsAt, strangePlace, repeatPlace, faultCheck}
+use Rattle.digit_text.specs.Reading.{readCheck, placeOf, readRound, readWord, readOf}
+use Rattle.digit_text.specs.declared.ReadAnswer.{ReadAnswer}
 use Rattle.running_sum.specs.declared.RunningSum.{RunningSum}
 use Rattle.running_sum.specs.declared.OpenAnswer.{OpenAnswer}
 use Rattle.running_sum.specs.Steps.{depthCheck, openAnswer, openOf, stepped, putCheck, stepOf}
@@ -46,8 +50,8 @@ use Rattle.running_sum.proofs.Links.{meets-step}
 use Rattle.bench_sheet.specs.Bench.{flatOf, flatCut, flatEvenCut, flatWord, Called, called}
 use Rattle.bench_sheet.specs.Bench.{Check, sum, difference, product, cut, rest, evenCut}
 use Rattle.bench_sheet.specs.Bench.{widen, up, even, sumUp, sumEven, halfProduct}
-use Rattle.bench_sheet.specs.Bench.{worth, fits, text, run, ran, right, every, bench}
-use Rattle.bench_sheet.specs.Bench.{requested}
+use Rattle.bench_sheet.specs.Bench.{worth, fits, text, reading, run, ran, right, every}
+use Rattle.bench_sheet.specs.Bench.{bench, requested}
 use Rattle.bench_sheet.specs.Met.{Answers, Runs, Met, Each, EveryCut}
 
 -- there is a row for each of P1 to P14, and every check of every row holds; so does every check of
@@ -59,7 +63,9 @@ unfolding fitsWidth floorBy lowest cleared digit digitsBelow anyBelow lowDigits 
     halfUnitFitted lentAfter writeAnswer signChangeWord cutBy restWord evenRoundBit widenWord
     sumWord magnitudeProduct multiplied productWord fromPlainUpWord evenFloor fromPlainEvenWord
     sumUpWord sumEvenWord halfMultiplied halfProductWord signedDigit byteOf byteAt textOf
-    writeCheck writeOf bufferOf depthCheck openAnswer openOf stepped putCheck stepOf
+    writeCheck writeOf bufferOf depthCheck openAnswer openOf stepped putCheck stepOf firstBad
+    digitOf textValue signBefore strangeAt repeatsAt strangePlace repeatPlace faultCheck readCheck
+    placeOf readRound readWord readOf
 bench-holds = (refl, refl, refl)
 
 -- ---- from the definitions to the contracts: a contract says that the answer is the definition's
@@ -84,6 +90,16 @@ text-met w lent then count h κs before after r l p =
       ap (λ (r : WriteAnswer). numberOf (r .outcome)) same ∙ eqb-true o 0 (holds .0),
       ap (λ (r : WriteAnswer). r .count) same ∙ eqb-true (a .count) count (holds .1),
       p .1 ∙ ap (bufferOf w) l ∙ same-bytes b then (holds .2),
+    )
+
+reading-met : (t : List ℕ) (a : Flat) (k : ℕ) → right (reading t a k) ≡ true → Met (reading t a k)
+reading-met t a k h κs before after r l p =
+    let b = readOf t (pos 0) in
+    let f = flatOf (b .outcome) (b .word) in
+    let holds = and-both (sameFlat f a) (eqb (b .place) k) h in
+    let same : r ≡ b = p ∙ ap (λ (t : List ℕ). readOf t (pos 0)) l in (
+      ap (λ (r : ReadAnswer). flatOf (r .outcome) (r .word)) same ∙ same-flat f a (holds .0),
+      ap (λ (r : ReadAnswer). r .place) same ∙ eqb-true (b .place) k (holds .1),
     )
 
 ran-runs : (s : RunningSum) (calls : List Called) → ran s calls ≡ true → Runs s calls
@@ -129,6 +145,7 @@ right-met (halfProduct x y a) h = same-answers flatHalfUnit a h
 right-met (worth w units) h = eqZ-same (roundBitValue w) (pos 2 *ℤ units) h
 right-met (fits x n) h = h
 right-met (text w lent then count) h = text-met w lent then count h
+right-met (reading t a k) h = reading-met t a k h
 right-met (run n e d calls) h = run-met n e d calls h
 
 every-each : {A : Type 0} (test : A → Bool) {P : A → Type 0} →

@@ -22,6 +22,7 @@ use Rattle.round_bit.specs.Arithmetic.{sumWord, sumOf, differenceOf, productOf}
 use Rattle.half_unit.specs.Conversions.{fromPlainUpOf, fromPlainEvenOf}
 use Rattle.half_unit.specs.Arithmetic.{sumUpOf, sumEvenOf, productOf as halfProductOf}
 use Rattle.digit_text.specs.Digits.{writeOf, bufferOf}
+use Rattle.digit_text.specs.Reading.{readOf}
 use Rattle.running_sum.specs.declared.RunningSum.{RunningSum}
 use Rattle.running_sum.specs.Steps.{Call, put, handOut, openOf, stepOf}
 
@@ -54,6 +55,8 @@ pub data Check : Type 0 where
   fits : ℤ → ℕ → Check
   -- a word whose digit text is written, the buffer lent, the buffer then, and the count
   text : RoundBitWord → List ℕ → List ℕ → ℕ → Check
+  -- a text that is read at unit 0, its answer and its place
+  reading : List ℕ → Flat → ℕ → Check
   -- a running sum's width, unit and depth, and the calls on it in order
   run : ℕ → ℤ → ℕ → List Called → Check
 
@@ -84,6 +87,9 @@ right (fits x n) = fitsWidth x n
 right (text w lent then count) =
     let a = writeOf w (length lent) in
     eqb (numberOf (a .outcome)) 0 && eqb (a .count) count && sameBytes (bufferOf w lent) then
+right (reading t a k) =
+    let r = readOf t (pos 0) in
+    sameFlat (flatOf (r .outcome) (r .word)) a && eqb (r .place) k
 right (run n e d calls) =
     let a = openOf n e d in
     eqb (numberOf (a .outcome)) 0 && sameFlat (flatWord (a .sum .kept)) (flat 0 (pos 0) 0 n e)
@@ -189,5 +195,15 @@ requested =
     ∷ evenCut (five (pos 2) 1) 1 (flat 0 (pos 1) 1 (5 - 1) (pos 1))
     ∷ worth (five (pos 2) 1) (pos 3)
     ∷ worth (evenCutOf (five (pos 2) 1) 1 .word) (pos 2)
+    ∷ [])
+    -- Ask 3, which names no text. "a stray blank": `+ +`; "two plus signs": `++-`, and with a zero
+    -- between them `+0+`; "a text with both faults gives 13": `+0-0-+?`; "Done and the other
+    -- refusals give place 0": `+-`, and 64 times `x`.
+    ∷ (reading (43 ∷ 32 ∷ 43 ∷ []) (refused 13) 1
+    ∷ reading (43 ∷ 43 ∷ 45 ∷ []) (refused 9) 1
+    ∷ reading (43 ∷ 48 ∷ 43 ∷ []) (refused 9) 2
+    ∷ reading (43 ∷ 48 ∷ 45 ∷ 48 ∷ 45 ∷ 43 ∷ 63 ∷ []) (refused 13) 6
+    ∷ reading (43 ∷ 45 ∷ []) (done 2 (pos 1) 0) 0
+    ∷ reading (replicate 64 120) (refused 1) 0
     ∷ [])
     ∷ []

@@ -9,6 +9,7 @@ use Rattle.words.specs.declared.Outcome.the-variants.{Done}
 use Rattle.words.specs.declared.Format.{Format}
 use Rattle.words.specs.declared.RoundBitWord.{RoundBitWord}
 use Rattle.words.specs.declared.WriteAnswer.{WriteAnswer}
+use Rattle.digit_text.specs.declared.ReadAnswer.{ReadAnswer}
 use Rattle.words.specs.Refusals.{numberOf}
 use Rattle.words.specs.RoundBit.{roundBitValue, roundBitCheck}
 use Rattle.words.specs.Flat.{flat, flatRoundBit, flatHalfUnit}
@@ -29,10 +30,11 @@ use Rattle.half_unit.proofs.sum_up.Reads as sum-up-function
 use Rattle.half_unit.proofs.sum_even.Reads as sum-even-function
 use Rattle.half_unit.proofs.product.Reads as half-product-function
 use Rattle.digit_text.proofs.write.Reads as write-function
+use Rattle.digit_text.proofs.read.Reads as read-function
 use Rattle.bench_sheet.specs.Bench.{flatOf, flatCut, flatEvenCut, flatWord, Called, called}
 use Rattle.bench_sheet.specs.Bench.{Check, sum, difference, product, cut, rest, evenCut}
 use Rattle.bench_sheet.specs.Bench.{widen, up, even, sumUp, sumEven, halfProduct}
-use Rattle.bench_sheet.specs.Bench.{worth, fits, text, run}
+use Rattle.bench_sheet.specs.Bench.{worth, fits, text, reading, run}
 
 -- what is read off every answer that a contract admits is b
 abbrev pub Answers : {X E B : Type 0} → (X → B) → (X → E → Type 0) → B → Type 0
@@ -66,6 +68,10 @@ Met (text w lent then count) =
     (κs : Lfts 1) (before after : RefT (List ℕ)) (r : WriteAnswer) →
     now before ≡ lent → write-function.Post κs (w, (before, tt)) r (w, (after, tt)) →
     (numberOf (r .outcome) ≡ 0) × (r .count ≡ count) × (now after ≡ then)
+Met (reading t a k) =
+    (κs : Lfts 1) (before after : RefT (List ℕ)) (r : ReadAnswer) →
+    now before ≡ t → read-function.Post κs (before, (pos 0, tt)) r (after, (pos 0, tt)) →
+    (flatOf (r .outcome) (r .word) ≡ a) × (r .place ≡ k)
 Met (run n e d calls) =
     (a : OpenAnswer) → open-function.Post tt (n, (e, (d, tt))) a (n, (e, (d, tt))) →
     (numberOf (a .outcome) ≡ 0) × (flatWord (a .sum .kept) ≡ flat 0 (pos 0) 0 n e)

@@ -2,7 +2,8 @@
 // operations, through the code and prints what it answers.
 //
 // A line is the example's name, the number of the outcome, and then the word: number, round bit, width
-// and unit. A running sum's line ends with what is kept; a file's line has kind, width, unit and count.
+// and unit. A running sum's line ends with what is kept, that of a digit text which is read with the place;
+// a file's line has kind, width, unit and count.
 // The expected output was written by hand from the documents. The tables are in specs/Bench.antt, what they
 // say of the code in specs/Met.antt, and the proof of both in proofs/Bench.antt.
 use libc::STDOUT_FILENO;
@@ -301,13 +302,23 @@ fn files() {
 fn print_reading(name: &[u8], text: &[u8]) {
     let a = digit_text::read(text, 0);
     let o = a.outcome;
-    print_round_bit(name, o, a.word);
+    print_outcome(name, o);
+    print_word(a.word);
+    print_count(a.place as u64);
+    print_text(b"\n");
 }
 
 fn requested() {
     print_even_cut(b"Ask 2", round_bit(5, 1, 1), 1);
     print_even_cut(b"Ask 2", round_bit(5, 0, 1), 1);
     print_even_cut(b"Ask 2", round_bit(5, 2, 1), 1);
+    print_reading(b"Ask 3", b"+ +");
+    print_reading(b"Ask 3", b"++-");
+    print_reading(b"Ask 3", b"+0+");
+    print_reading(b"Ask 3", b"+0-0-+?");
+    print_reading(b"Ask 3", b"+-");
+    let many = [b'x'; 64];
+    print_reading(b"Ask 3", &many);
 }
 
 fn main() {
