@@ -1,8 +1,9 @@
--- The leftmost place in a text that a test holds of, and the tests of the two faults: what a turn of their searches asks, and what a passed
--- check tells. Assumes nothing.
--- Proved here: `leftmost-le`, `leftmost-holds`, `leftmost-before`, `leftmost-none`, `found-leftmost`, `not-found`, `leftmost-at`, `leftmost-end`,
--- `strange-is`, `repeats-is`, `place-next`, `fault-free`, `free-fault`, `read-right`, `place-fits`.
-use Prim.Native.Nat.{ℕ, _+_, _-_, _^_, _≤_, _<_}
+-- The leftmost place in a text that a test holds of, and the tests of the two faults: what a turn of their searches asks, what a check finds,
+-- and what a passed check tells. Assumes nothing.
+-- Proved here: `turned`, `leftmost-le`, `leftmost-holds`, `leftmost-before`, `found-leftmost`, `not-found`, `leftmost-none`, `leftmost-at`,
+-- `passed-more`, `strange-is`, `repeats-is`, `place-next`, `fault-free`, `free-fault`, `byte-finding`, `repeat-finding`, `format-place`,
+-- `place-fits`, `read-right`.
+use Prim.Native.Nat.{ℕ, _+_, _-_, _≤_, _<_}
 use native.Mathlib.Numerals.{add-one}
 use native.Mathlib.Omega.{arith}
 use mathlib.Core.Path.{_≡_, refl, sym, ap, _∙_}
@@ -25,8 +26,8 @@ use Rattle.words.specs.declared.Outcome.the-variants.{Done, Refused}
 use Rattle.words.proofs.Laws.{RightFormat, right-format, refused-not-done, both-passed, passed, or-false}
 use Rattle.digit_text.specs.declared.Finding.{Finding}
 use Rattle.digit_text.specs.Digits.{none, signBefore}
-use Rattle.digit_text.specs.Reading.{strange, strangeAt, repeatsAt, leftmost, strangePlace, repeatPlace, found, faultCheck, readCheck, placeOf}
-use Rattle.digit_text.specs.Reading.{finding}
+use Rattle.digit_text.specs.Reading.{strange, strangeAt, repeatsAt, leftmost, strangePlace, repeatPlace, found}
+use Rattle.digit_text.specs.Reading.{faultCheck, readCheck, placeOf, finding}
 use Rattle.digit_text.proofs.Scan.{getD-any}
 
 -- ---- a byte less is left: the next place

@@ -43,8 +43,8 @@ repeatPlace t = leftmost t (repeatsAt t)
 abbrev pub found : ℕ → List ℕ → Bool
 found k t = ltb k (length t)
 
--- "a byte outside the three is 13, repeated signs stay 9"; "13 stands directly before 9; a text with
--- both faults gives 13", wherever they stand
+-- "a byte outside the three is 13, repeated signs stay 9"; "13 stands directly before 9; a text
+-- with both faults gives 13", wherever they stand
 unfoldable pub faultCheck : List ℕ → Outcome
 faultCheck t = refuse 13 (found (strangePlace t) t) orElse refuse 9 (found (repeatPlace t) t)
 

@@ -1,6 +1,6 @@
 -- Which texts are faulty, and that a good text is one whose cuts are roundings (000, Definition 1 and Theorem 2). Assumes nothing.
--- Proved here: `place`, `inside`, `byte`, `first`, `second`, `order`, `nonzero`, `same`, `between`, `faulty-tells`, `strange-faulty`, `repeated-faulty`,
--- `good-rounds`, `rounds-good`.
+-- Proved here: `place`, `inside`, `byte`, `first`, `second`, `order`, `nonzero`, `same`, `between`, `repeats-tells`, `tells-repeats`, `faulty-tells`,
+-- `strange-found`, `repeated-found`, `strange-faulty`, `repeated-faulty`, `good-rounds`, `rounds-good`.
 use Prim.Native.Nat.{ℕ, suc, _+_, _-_, _^_, _≤_, _<_}
 use native.Mathlib.Omega.{arith}
 use mathlib.Core.Path.{_≡_, refl, sym, _∙_}

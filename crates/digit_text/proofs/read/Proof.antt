@@ -1,5 +1,7 @@
 use Prim.Native.Nat.{ℕ}
 use mathlib.Core.Path.{_≡_, sym, ap, _∙_}
+use mathlib.Core.List.{List}
+use lib.IntN.{ℤ}
 use native.Mathlib.Omega.{arith}
 use mir.Facts.{toZ-ofZ}
 use Rattle.words.specs.RoundBit.{roundBitDone, roundBitRefused}
@@ -24,42 +26,49 @@ doneAt w k = record { outcome = Done; word = w; place = k }
 
 -- what the check found: an outcome, and a place that fits
 module _ (c : tie.After-read-check) where
-  abbrev s : tie.Start
-  s = c .before .before
+  abbrev start : tie.Start
+  start = c .before .before
 
-  checked : c .read-check .result ≡ finding (s .args .text .now) (readCheck (s .args .text .now) (s .args .unit))
-  checked = c .read-check .ensures ∙ rw (toZ-ofZ (s .fits .unit))
+  abbrev text : List ℕ
+  text = start .args .text .now
 
-  outcome : c .read-check .result .outcome ≡ readCheck (s .args .text .now) (s .args .unit)
+  abbrev unit : ℤ
+  unit = start .args .unit
+
+  checked : c .read-check .result ≡ finding text (readCheck text unit)
+  checked = c .read-check .ensures ∙ rw (toZ-ofZ (start .fits .unit))
+
+  outcome : c .read-check .result .outcome ≡ readCheck text unit
   outcome = ap (λ (f : Finding). f .outcome) checked
 
-  place : c .read-check .result .place ≡ placeOf (s .args .text .now) (readCheck (s .args .text .now) (s .args .unit))
+  place : c .read-check .result .place ≡ placeOf text (readCheck text unit)
   place = ap (λ (f : Finding). f .place) checked
 
 cast-place : tie.Need-cast-place
-cast-place c = let b = c .before in rw (place b) (omega (arith, place-fits (s b .args .text .now) (s b .args .unit)))
+cast-place c = let b = c .before in rw (place b) (omega (arith, place-fits (text b) (unit b)))
 
 read-word-requires : tie.Need-read-word-requires
 read-word-requires c κs =
     let b = c .before .before .before in
-    rw (toZ-ofZ (s b .fits .unit)) (sym (outcome b) ∙ c .enum-told .given .1)
+    rw (toZ-ofZ (start b .fits .unit)) (sym (outcome b) ∙ c .enum-told .given .1)
 
 returns : tie.Need-returns
 unfolding readOf
 returns c =
     let b = c .before .before .before .before .before in
     let refused = c .before .before .o .given .1 in
-    let told = place b ∙ ap (placeOf (s b .args .text .now)) (sym (outcome b) ∙ refused) in
-    refusing (readRefused (s b .args .text .now)) _ _ _ _ _ (outcome b) refused (c .read-refused .ensures ∙ ap (refusedAt _) told)
+    let told = place b ∙ ap (placeOf (text b)) (sym (outcome b) ∙ refused) in
+    refusing (readRefused (text b)) _ _ _ _ _ (outcome b) refused (c .read-refused .ensures ∙ ap (refusedAt _) told)
 
 returns-2 : tie.Need-returns-2
 unfolding readOf placeOf
 returns-2 c =
     let b = c .before .before .before .before .before in
     let done = c .before .before .enum-told .given .1 in
-    let told : b .read-check .result .place ≡ 0 = place b ∙ ap (placeOf (s b .args .text .now)) (sym (outcome b) ∙ done) in
-    let made : c .before .read-word .result ≡ readWord (s b .args .text .now) (s b .args .unit) = c .before .read-word .ensures ∙ rw (toZ-ofZ (s b .fits .unit)) in
-    answering (readRefused (s b .args .text .now)) (λ w. readAnswer (roundBitDone w)) _ _ _ _ _ (outcome b) done made (c .read-done .ensures ∙ ap (doneAt _) told)
+    let told : b .read-check .result .place ≡ 0 = place b ∙ ap (placeOf (text b)) (sym (outcome b) ∙ done) in
+    let made : c .before .read-word .result ≡ readWord (text b) (unit b) = c .before .read-word .ensures ∙ rw (toZ-ofZ (start b .fits .unit)) in
+    let answered = c .read-done .ensures ∙ ap (doneAt _) told in
+    answering (readRefused (text b)) (λ w. readAnswer (roundBitDone w)) _ _ _ _ _ (outcome b) done made answered
 
 pub read-spec : {M : Type 1} → statement M
 read-spec =

@@ -38,7 +38,9 @@ module _ (c : tie.After-strange Inv-loop μ-loop) where
 
 returns : tie.Need-returns Inv-loop μ-loop
 unfolding strangePlace
-returns c = let s = c .before in leftmost-at (text s) (strangeAt (text s)) (length (text s) - left s) (inside s) (turn s .loop .inv .1) (judged s ∙ c .if1 .taken)
+returns c =
+    let s = c .before in
+    leftmost-at (text s) (strangeAt (text s)) (length (text s) - left s) (inside s) (turn s .loop .inv .1) (judged s ∙ c .if1 .taken)
 
 loop-again : tie.Need-loop-again Inv-loop μ-loop
 loop-again c =
