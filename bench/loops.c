@@ -7,6 +7,7 @@
 #define PEER static inline
 #include "peer.c"
 #include "peer_bank.c"
+#include "peer_text.c"
 #include "peer_file.c"
 #else
 #include "calls.h"
@@ -71,6 +72,12 @@ static void channel_output(const struct work *w, struct answers *a)
         a->words[i] = CALL(bank_output)(w->banks[i % BANKS], w->windows[i % WINDOWS], w->channels[i]);
 }
 
+static void read_text(const struct work *w, struct answers *a)
+{
+    for (int i = 0; i < w->words; i++)
+        a->texts[i] = CALL(digit_text_read)(w->texts[i].bytes, w->texts[i].length, w->texts[i].unit);
+}
+
 static void read_file(const struct work *w, struct answers *a)
 {
     a->head = CALL(file_read)(w->file, w->length, a->numbers, w->numbers_room, a->rounds, w->rounds_room);
@@ -99,6 +106,7 @@ loop *const NAME[LOOPS] = {
     [PRODUCT] = product,
     [PUT_HAND_OUT] = put_hand_out,
     [BANK] = channel_output,
+    [TEXT_READ] = read_text,
     [READ] = read_file,
     [WRITE] = write_file,
     [LISTING] = write_listing,

@@ -60,6 +60,7 @@ static const struct row {
     {"product", PRODUCT, 1, 50},
     {"put-hand-out", PUT_HAND_OUT, 1, 20},
     {"bank", BANK, 1, 20},
+    {"text-read", TEXT_READ, 1, 20},
     {"read", READ, 1, 100},
     {"write", WRITE, 1, 100},
     {"listing", LISTING, 1, 5},
@@ -73,11 +74,16 @@ enum { ROWS = sizeof rows / sizeof *rows };
 static struct work works[MOST_WORKS];
 static struct answers answers[2];
 
+static int same_text(frost_text_answer x, frost_text_answer y)
+{
+    return same_word(x.word, y.word) && x.refusal == y.refusal && x.place == y.place;
+}
+
 static int same(const struct work *w, const struct answers *x, const struct answers *y)
 {
     for (int i = 0; i < w->words; i++)
         if (!same_word(x->words[i].word, y->words[i].word) || x->words[i].refusal != y->words[i].refusal ||
-            !same_sum(x->sums[i], y->sums[i]))
+            !same_sum(x->sums[i], y->sums[i]) || !same_text(x->texts[i], y->texts[i]))
             return 0;
     return memcmp(&x->head, &y->head, sizeof x->head) == 0 &&
            memcmp(x->numbers, y->numbers, sizeof x->numbers) == 0 &&
@@ -100,7 +106,7 @@ static int near(const struct work *w, const struct answers *x, const struct answ
 static int refused(const struct work *w, const struct answers *a)
 {
     for (int i = 0; i < w->words; i++)
-        if (a->words[i].refusal != DONE)
+        if (a->words[i].refusal != DONE || a->texts[i].refusal != DONE)
             return 1;
     return a->head.refusal != DONE || a->written.refusal != DONE;
 }

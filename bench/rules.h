@@ -14,13 +14,18 @@ enum cause {
     ANSWER_TOO_WIDE = 6,
     ANSWER_UNIT_OUTSIDE = 7,
     ANSWER_DOES_NOT_FIT = 8,
+    SIGN_REPEATED = 9,
     BUFFER_TOO_SHORT = 10,
     MARK_OR_VERSION_WRONG = 11,
     LENGTH_KIND_OR_COUNT_WRONG = 12,
+    BYTE_OUTSIDE = 13,
     CHANNEL_OUTSIDE = 17,
 };
 
 enum { LEAST_WIDTH = 2, MOST_WIDTH = 63, MOST_UNIT = 127, LEAST_UNIT = -MOST_UNIT, BLANK_WIDTH = 2 };
+
+/* The bytes of a digit text. */
+enum digit_byte { PLUS = '+', ZERO = '0', MINUS = '-' };
 
 /* Their bytes in a file; KINDS is the first byte that is no kind. */
 enum kind_byte { PLAIN, ROUND_BIT, HALF_UNIT, KINDS };

@@ -11,7 +11,7 @@ mod model;
 use library::*;
 use model::block_file::Block;
 use model::layout::VERSION_1;
-use model::{bank, block_file, listing, round_bit, running_sum};
+use model::{bank, block_file, digit_text, listing, round_bit, running_sum};
 use std::slice::{from_raw_parts, from_raw_parts_mut};
 
 #[no_mangle]
@@ -63,6 +63,17 @@ pub extern "C" fn second_bank_output(
     channel: u32,
 ) -> FrostRoundBitAnswer {
     OfModel::of(bank::output(&bank.model(), &window.model(), channel as i128))
+}
+
+/// # Safety
+/// As the header asks: the pointer is valid for the length.
+#[no_mangle]
+pub unsafe extern "C" fn second_digit_text_read(
+    text: *const u8,
+    length: usize,
+    unit: i32,
+) -> FrostTextAnswer {
+    OfModel::of(digit_text::read(from_raw_parts(text, length), unit as i128))
 }
 
 /// # Safety

@@ -1,4 +1,5 @@
-/* The same work in every run: good words whose numbers have every size that their width allows, and odd ones. */
+/* The same work in every run: good words, and digit texts of them, whose numbers have every size that their width
+ * allows, and odd ones. */
 #include <string.h>
 
 #include "work.h"
@@ -42,8 +43,13 @@ static frost_round_bit good_word(uint64_t *state, uint32_t width, int32_t unit)
     return word(state, width - 2, width, unit);
 }
 
+static uint32_t any_width(uint64_t *state)
+{
+    return LEAST_WIDTH + below(state, MOST_WIDTH - LEAST_WIDTH + 1);
+}
+
 /* Every width from 0 and two past the most; every unit and some past either end. */
-enum { WIDTHS_AND_PAST = MOST_WIDTH + 3, UNITS_PAST = 5 };
+enum { WIDTHS_AND_PAST = MOST_WIDTH + WIDTHS_PAST + 1, UNITS_PAST = 5 };
 
 static int32_t odd_unit(uint64_t *state)
 {
@@ -115,6 +121,33 @@ static void make_banks(struct work *w, uint64_t *state)
         w->channels[i] = below(state, CHANNELS);
 }
 
+/* The text of a word of this format: each digit is the bit below it less its own, and below the lowest is the round
+ * bit. Behind it lie zeros, so that a longer text has no other fault. */
+static void make_text(struct text *t, uint64_t *state, uint32_t width, int32_t unit)
+{
+    frost_round_bit w = word(state, width - 1, width, unit);
+    int lower = w.round;
+    memset(t->bytes, ZERO, sizeof t->bytes);
+    for (uint32_t i = 0; i < width; i++) {
+        int here = w.number >> i & 1;
+        if (lower != here)
+            t->bytes[width - 1 - i] = here < lower ? PLUS : MINUS;
+        lower = here;
+    }
+    t->length = width;
+    t->unit = unit;
+}
+
+/* Every width and unit: nothing else can refuse a text of a word. */
+static void make_texts(struct work *w, uint64_t *state)
+{
+    for (int i = 0; i < w->words; i++) {
+        uint32_t width = any_width(state);
+        int32_t unit = (int32_t)below(state, MOST_UNIT - LEAST_UNIT + 1) + LEAST_UNIT;
+        make_text(&w->texts[i], state, width, unit);
+    }
+}
+
 /* Widths end at 32 and units at 60, so that no product is refused. */
 void make_work(struct work *w, uint64_t seed, uint32_t records)
 {
@@ -133,6 +166,7 @@ void make_work(struct work *w, uint64_t seed, uint32_t records)
     }
     make_block(w, &state, records);
     make_banks(w, &state);
+    make_texts(w, &state);
     w->numbers_room = w->rounds_room = MOST_RECORDS;
     w->file_room = LONGEST_FILE;
     w->text_room = LONGEST_LISTING;
@@ -167,7 +201,7 @@ static void make_odd_eight(frost_round_bit *words, uint64_t *state, uint32_t wid
 {
     int32_t unit = odd_unit(state);
     if (below(state, 8) == 0)
-        width = LEAST_WIDTH + below(state, MOST_WIDTH - LEAST_WIDTH + 1);
+        width = any_width(state);
     make_eight(words, state, below(state, 2) == 0 ? 0 : width - 1, width, unit);
     if (below(state, 2) == 0)
         for (int k = 1; k < TAPS; k++)
@@ -192,6 +226,30 @@ static void make_odd_banks(struct work *w, uint64_t *state)
     }
 }
 
+/* One of the three, so that a sign may repeat; or a byte beside them; or any. */
+static uint8_t odd_byte(uint64_t *state)
+{
+    static const uint8_t three[] = {PLUS, ZERO, MINUS};
+    if (below(state, 2) == 0)
+        return three[below(state, 3)];
+    return below(state, 2) == 0 ? (uint8_t)(PLUS - 1 + below(state, 8)) : (uint8_t)next(state);
+}
+
+/* Some bytes changed, often the last, which is a place that only texts as long have; perhaps of another length. */
+static void make_odd_texts(struct work *w, uint64_t *state)
+{
+    for (struct text *t = w->texts; t < w->texts + w->words; t++) {
+        uint32_t width = any_width(state);
+        make_text(t, state, width, odd_unit(state));
+        while (below(state, 2) == 0) {
+            uint8_t odd = odd_byte(state);
+            t->bytes[below(state, 4) == 0 ? width - 1 : below(state, width)] = odd;
+        }
+        if (below(state, 4) == 0)
+            t->length = below(state, WIDTHS_AND_PAST);
+    }
+}
+
 void make_odd_work(struct work *w, uint64_t seed)
 {
     w->words = 16;
@@ -199,11 +257,12 @@ void make_odd_work(struct work *w, uint64_t seed)
     w->sum_unit = odd_unit(&seed);
     w->sum_depth = below(&seed, 1 + w->sum_width);
     for (int i = 0; i < w->words; i++) {
-        w->first[i] = odd_word(&seed, LEAST_WIDTH + below(&seed, MOST_WIDTH - LEAST_WIDTH + 1), 100);
+        w->first[i] = odd_word(&seed, any_width(&seed), 100);
         w->second[i] = odd_word(&seed, w->first[i].width, w->first[i].unit);
         w->depths[i] = below(&seed, 8) == 0 ? next(&seed) : below(&seed, WIDTHS_AND_PAST);
         w->samples[i] = odd_word(&seed, w->sum_width, w->sum_unit);
     }
     make_odd_block(w, &seed);
     make_odd_banks(w, &seed);
+    make_odd_texts(w, &seed);
 }

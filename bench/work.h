@@ -15,6 +15,15 @@ enum {
     /* No bank comes round to the same window in as many outputs as there are words. */
     BANKS = 64,
     WINDOWS = 1000,
+    /* Odd widths go so far past the most. */
+    WIDTHS_PAST = 2,
+};
+
+/* With room for the odd ones, which may be too long. */
+struct text {
+    size_t length;
+    int32_t unit;
+    uint8_t bytes[MOST_WIDTH + WIDTHS_PAST];
 };
 
 /* Formats, depths and rooms stand here and not as constants in the loops: a check that the compiler can decide is not
@@ -30,6 +39,7 @@ struct work {
     frost_bank banks[BANKS];
     frost_window windows[WINDOWS];
     uint32_t channels[MOST_WORDS];
+    struct text texts[MOST_WORDS];
     uint32_t kind, width;
     int32_t unit;
     size_t numbers_count, rounds_count;
@@ -45,6 +55,7 @@ struct work {
 struct answers {
     frost_round_bit_answer words[MOST_WORDS];
     frost_running_sum sums[MOST_WORDS];
+    frost_text_answer texts[MOST_WORDS];
     frost_file_head head;
     int32_t numbers[MOST_RECORDS];
     uint8_t rounds[MOST_RECORDS];
@@ -60,6 +71,7 @@ enum {
     PRODUCT,
     PUT_HAND_OUT,
     BANK,
+    TEXT_READ,
     READ,
     WRITE,
     LISTING,
