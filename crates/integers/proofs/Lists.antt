@@ -1,13 +1,13 @@
 -- Laws of a list that a loop writes over from its front, of parts stored one behind the other, and of the search for the first fault.
 -- Each is over the element type, and is what one turn of such a loop asks. Assumes nothing.
 -- Proved here: `length-tab`, `getD-tab`, `over-none`, `over-store`, `length-over`, `over-front`, `over-below`, `over-above`, `sets-append`,
--- `sets-front`, `flat-more`, `length-flat`, `flat-most`, `flat-grows`, `flat-store`, `first-bad-le`, `first-bad-most`, `first-bad-before`,
+-- `sets-front`, `flat-more`, `length-flat`, `flat-most`, `flat-grows`, `flat-store`, `first-bad-le`, `first-bad-before`, `first-bad-most`,
 -- `first-bad-at`, `first-bad-none`, `first-bad-end`, `first-bad-fails`, `all-each`, `each-all`, `all-fails`.
 use mathlib.Core.Path.{_≡_, refl, sym, ap, _∙_}
-use mathlib.Core.Bool.{Bool, true, false, cond}
+use mathlib.Core.Bool.{Bool, true, false, cond, true≢false}
 use mathlib.Core.List.{List, [], _∷_, _++_, append-assoc, append-nil}
-use Prim.Native.Nat.{ℕ, zero, suc, _+_, _*_, _-_, _<_, _≤_}
-use native.Mathlib.Nat.{not-suc-le-zero, le-of-suc-le-suc}
+use Prim.Native.Nat.{ℕ, zero, suc, _+_, _*_, _<_, _≤_}
+use native.Mathlib.Nat.{not-suc-le-zero, le-of-suc-le-suc, lt-of-not-le}
 use native.Mathlib.Numerals.{add-one}
 use native.Mathlib.Omega.{arith}
 use lib.ListN.{length, set, getD, drop, length-append, length-drop, List·getD-append}
@@ -114,17 +114,6 @@ first-bad-le (suc n) good = go (good zero) (first-bad-le n (λ k. good (suc k)))
     go true h = omega arith
     go false h = omega arith
 
--- no index at which the test fails stands before it
-pub first-bad-most : (n i : ℕ) (good : ℕ → Bool) → good i ≡ false → firstBad n good ≤ i
-unfolding firstBad
-first-bad-most zero i good e = omega arith
-first-bad-most (suc n) zero good e = rw e (omega arith)
-first-bad-most (suc n) (suc i) good e = go (good zero) (first-bad-most n i (λ k. good (suc k)) e)
-  where
-    go : (b : Bool) → firstBad n (λ k. good (suc k)) ≤ i → cond b (suc (firstBad n (λ k. good (suc k)))) 0 ≤ suc i
-    go true h = omega arith
-    go false h = omega arith
-
 -- below it the test holds
 pub first-bad-before : (n : ℕ) (good : ℕ → Bool) (k : ℕ) → k < firstBad n good → good k ≡ true
 unfolding firstBad
@@ -139,6 +128,10 @@ first-bad-before (suc n) good (suc k) h = first-bad-before n (λ k. good (suc k)
     go : (b : Bool) → suc k < cond b (suc (firstBad n (λ k. good (suc k)))) 0 → k < firstBad n (λ k. good (suc k))
     go true h = omega arith
     go false h = absurd (omega arith)
+
+-- so no index at which it fails stands before it
+pub first-bad-most : (n i : ℕ) (good : ℕ → Bool) → good i ≡ false → firstBad n good ≤ i
+first-bad-most n i good e = le-of-suc-le-suc (lt-of-not-le (λ h. true≢false (sym (first-bad-before n good i h) ∙ e)))
 
 -- a loop that has passed the indices below i and stopped there has found it: at n, or where the test fails
 pub first-bad-at : (n i : ℕ) (good : ℕ → Bool) → i < n → ((k : ℕ) → k < i → good k ≡ true) → good i ≡ false → firstBad n good ≡ i

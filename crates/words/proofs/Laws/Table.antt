@@ -1,7 +1,6 @@
 -- The table of refusals, whose numbers may leave gaps: `number-of-cause`, `cause-of-number`, `cause-some`, `cause-small`,
 -- `cause-one`. What a test says of every row holds of the row that is found, by one argument over the rows. Assumes nothing.
 use Prim.Native.Nat.{ℕ, _≤_}
-use native.Mathlib.Omega.{arith}
 use mathlib.Core.Path.{_≡_, refl, sym, ap, _∙_}
 use mathlib.Core.Bool.{Bool, true, false, _&&_}
 use mathlib.Core.List.{List, [], _∷_}
