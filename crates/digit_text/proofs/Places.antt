@@ -1,12 +1,12 @@
 -- The leftmost place in a text that a test holds of, and the tests of the two faults: what a turn of their searches asks, what a check finds,
 -- and what a passed check tells. Assumes nothing.
--- Proved here: `turned`, `leftmost-le`, `leftmost-holds`, `leftmost-before`, `found-leftmost`, `not-found`, `leftmost-none`, `leftmost-at`,
+-- Proved here: `turned`, `leftmost-holds`, `leftmost-before`, `found-leftmost`, `not-found`, `leftmost-none`, `leftmost-at`,
 -- `passed-more`, `strange-is`, `repeats-is`, `place-next`, `fault-free`, `free-fault`, `byte-finding`, `repeat-finding`, `format-place`,
 -- `place-fits`, `read-right`.
 use Prim.Native.Nat.{ℕ, _+_, _-_, _≤_, _<_}
 use native.Mathlib.Numerals.{add-one}
 use native.Mathlib.Omega.{arith}
-use mathlib.Core.Path.{_≡_, refl, sym, ap, _∙_}
+use mathlib.Core.Path.{_≡_, refl, sym, ap}
 use mathlib.Core.Bool.{Bool, true, false, not, cond, _&&_, _||_}
 use mathlib.Core.List.{List}
 use lib.Dec.{eqb}
@@ -36,7 +36,7 @@ turned n left h l = omega arith
 
 -- ---- the leftmost place that a test holds of
 module _ (t : List ℕ) (test : ℕ → Bool) where
-  pub leftmost-le : leftmost t test ≤ length t
+  leftmost-le : leftmost t test ≤ length t
   leftmost-le = first-bad-le (length t) _
 
   -- where it is found the test holds of it, and of none before it

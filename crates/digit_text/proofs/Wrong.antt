@@ -59,25 +59,31 @@ mistakes =
     ∷ read (none ∷ none ∷ []) (pos 0) (done 2 (negsuc 0) 1) 0
     ∷ []
 
--- the right cause and another place: of `+0+` the first of the two signs; of `++00` counted from the right; of `++++` the rightmost
--- repeat, of ` + ` the rightmost blank; left behind by a done `+-`, by the 1 of 64 bytes, by the 2 of a wrong unit
+-- the right cause and another place: of `+0+` the first of the two signs; of `++00` counted from the right; of `++` counted from 1; of
+-- `++++` the rightmost repeat, of ` + ` the rightmost blank; of `++ `, which has both faults, the repeat; left behind by a done `+-`, by
+-- the 1 of 64 bytes, by the 2 of a wrong unit
 abbrev misplaced : List Row
 misplaced =
     read (plus ∷ none ∷ plus ∷ []) (pos 0) (refused 9) 0
     ∷ read (plus ∷ plus ∷ none ∷ none ∷ []) (pos 0) (refused 9) 2
+    ∷ read (plus ∷ plus ∷ []) (pos 0) (refused 9) 2
     ∷ read (plus ∷ plus ∷ plus ∷ plus ∷ []) (pos 0) (refused 9) 3
     ∷ read (32 ∷ plus ∷ 32 ∷ []) (pos 0) (refused 13) 2
+    ∷ read (plus ∷ plus ∷ 32 ∷ []) (pos 0) (refused 13) 1
     ∷ read (plus ∷ minus ∷ []) (pos 0) (done 2 (pos 1) 0) 2
     ∷ read (replicate 64 120) (pos 0) (refused 1) 64
     ∷ read (plus ∷ plus ∷ []) (pos 128) (refused 2) 1
     -- a strange byte as it was, by 9; a word beside the 13
     ∷ read (plus ∷ 32 ∷ []) (pos 0) (refused 9) 1
     ∷ read (plus ∷ 32 ∷ []) (pos 0) (flat 13 (pos 1) 1 2 (pos 0)) 1
-    -- the causes in another order: 9 before 13, where the repeat stands first and where it stands last; 9 and 13 before 2; 13 before 1
+    -- the causes in another order: 9 before 13, where the repeat stands first and where it stands last; 9 and 13 before 2; 2, 9 and 13
+    -- before 1
     ∷ read (plus ∷ plus ∷ 32 ∷ []) (pos 0) (refused 9) 1
     ∷ read (32 ∷ plus ∷ plus ∷ []) (pos 0) (refused 9) 2
     ∷ read (plus ∷ plus ∷ []) (pos 128) (refused 9) 1
     ∷ read (plus ∷ 32 ∷ []) (pos 128) (refused 13) 1
+    ∷ read (replicate 64 none) (pos 128) (refused 2) 0
+    ∷ read (replicate 64 plus) (pos 0) (refused 9) 1
     ∷ read (replicate 64 120) (pos 0) (refused 13) 0
     ∷ []
 

@@ -21,8 +21,8 @@ unfoldable pub strangeAt : List ℕ → ℕ → Bool
 strangeAt t k = strange (getD t k none)
 
 -- the byte at index k is a "sign that repeats the sign before it": the later of "two nonzero digits
--- of one sign with nothing or only zeros between them". It is asked of the three bytes alone, since
--- any other is 13 before
+-- of one sign with nothing or only zeros between them". It matters in a text of the three bytes
+-- alone, since any other is 13
 unfoldable pub repeatsAt : List ℕ → ℕ → Bool
 repeatsAt t k = let b = getD t k none in not (eqb b none) && eqb b (signBefore t k)
 

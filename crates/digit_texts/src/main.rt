@@ -1,5 +1,5 @@
-// Writes every word of widths 2 to 6 as a digit text, and reads every text of up to four bytes, and some
-// longer ones, with the place of what is wrong.
+// Writes every word of widths 2 to 6 as a digit text, and reads every text of up to four bytes over the
+// three and an x, and texts that Ask 3 speaks of, with the place of what is wrong.
 //
 // Buffers begin as question marks, so that it shows which bytes were written. What it must print comes
 // from second/digit_texts.py, which was written from the documents alone.

@@ -11,7 +11,7 @@ use crate::model::words::RoundBit;
 /// A text, the number it is refused with, and the place.
 type Line = (&'static [u8], u32, i128);
 
-/// The ask's own: "a stray blank", "two plus signs", "both faults".
+/// What the ask speaks of: "a stray blank", "two plus signs", "both faults".
 #[rustfmt::skip] // one line by hand, one line here
 const OF_THE_ASK: &[Line] = &[
     (b"+ +", 13, 1),

@@ -1,9 +1,9 @@
--- Which texts a scan from the start finds good, and that those are the steps of bits. Assumes nothing.
+-- Which texts neither search finds a fault in, and that those are the steps of bits. Assumes nothing.
 -- Proved here: `steps-no-fault`, `byte-kind`, `bit`, `tells`, `stepping`, `good-stepping`.
 use Prim.Native.Nat.{ℕ, zero, suc, _≤_, _<_}
 use native.Mathlib.Nat.{not-suc-le-zero, le-of-suc-le-suc}
 use native.Mathlib.Omega.{arith}
-use mathlib.Core.Path.{_≡_, refl, sym, _∙_}
+use mathlib.Core.Path.{_≡_, refl, sym}
 use mathlib.Core.Bool.{Bool, true, false, not, _&&_, _||_, true≢false}
 use mathlib.Core.List.{List, [], _∷_}
 use lib.Dec.{eqb}

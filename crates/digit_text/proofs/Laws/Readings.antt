@@ -11,7 +11,6 @@ use lib.ListN.{length}
 use borrow.Author.Tests.{le-ltb}
 use Rattle.integers.proofs.Kit.{ints, plus-law}
 use Rattle.integers.proofs.Digits.{digit-minus-one}
-use Rattle.words.specs.Refusals.{formatCheck}
 use Rattle.words.specs.Formats.{format}
 use Rattle.words.specs.RoundBit.{roundBitWord, roundBitCheck, roundBitDone}
 use Rattle.words.specs.declared.Outcome.the-variants.{Done}

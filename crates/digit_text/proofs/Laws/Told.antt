@@ -51,17 +51,17 @@ a-sign b s n = go (byte-kind b s) n
     go a-minus n = inr refl
 
 -- ---- by which of its four tests a reading refuses
-unlike : (o p : Outcome) → eqb (numberOf o) (numberOf p) ≡ false → o ≡ p → ⊥
-unlike o p f e = eqb-false (numberOf o) (numberOf p) f (ap numberOf e)
+other-outcome : (o p : Outcome) → eqb (numberOf o) (numberOf p) ≡ false → o ≡ p → ⊥
+other-outcome o p f e = eqb-false (numberOf o) (numberOf p) f (ap numberOf e)
 
 which : (w u s r : Bool) →
     let o = (refuseFor Width w orElse refuseFor Unit u) orElse refuseFor Byte s orElse refuseFor DigitText r in
     (o ≡ Refused Byte → s ≡ true) × (o ≡ Refused DigitText → (s ≡ false) × (r ≡ true))
-which true u s r = (λ e. absurd (unlike (Refused Width) (Refused Byte) refl e), λ e. absurd (unlike (Refused Width) (Refused DigitText) refl e))
-which false true s r = (λ e. absurd (unlike (Refused Unit) (Refused Byte) refl e), λ e. absurd (unlike (Refused Unit) (Refused DigitText) refl e))
-which false false true r = (λ e. refl, λ e. absurd (unlike (Refused Byte) (Refused DigitText) refl e))
-which false false false true = (λ e. absurd (unlike (Refused DigitText) (Refused Byte) refl e), λ e. (refl, refl))
-which false false false false = (λ e. absurd (unlike Done (Refused Byte) refl e), λ e. absurd (unlike Done (Refused DigitText) refl e))
+which true u s r = (λ e. absurd (other-outcome (Refused Width) (Refused Byte) refl e), λ e. absurd (other-outcome (Refused Width) (Refused DigitText) refl e))
+which false true s r = (λ e. absurd (other-outcome (Refused Unit) (Refused Byte) refl e), λ e. absurd (other-outcome (Refused Unit) (Refused DigitText) refl e))
+which false false true r = (λ e. refl, λ e. absurd (other-outcome (Refused Byte) (Refused DigitText) refl e))
+which false false false true = (λ e. absurd (other-outcome (Refused DigitText) (Refused Byte) refl e), λ e. (refl, refl))
+which false false false false = (λ e. absurd (other-outcome Done (Refused Byte) refl e), λ e. absurd (other-outcome Done (Refused DigitText) refl e))
 
 module _ (t : List ℕ) (e : ℤ) where
   read-outcome : readOf t e .outcome ≡ readCheck t e
