@@ -1,4 +1,4 @@
-/* Every function of frostuldi.h called once from C, and one refusal of each type of answer. What each must answer was
+/* Every function of frostuldi.h called from C, and one refusal of each type of answer at least. What each must answer was
  * worked out by hand from the documents. No right answer is all zeros: so a function that answers nothing is seen. */
 #include "frostuldi.h"
 

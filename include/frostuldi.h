@@ -20,7 +20,7 @@ extern "C" {
 #endif
 
 /* The version that this header declares, as 10000 * major + 100 * minor + patch. frost_version() tells the archive's. */
-#define FROST_VERSION 10300
+#define FROST_VERSION 20000
 
 /* What `refusal` says. frost_refusal_text() has each in words. */
 enum frost_refusal {
@@ -168,7 +168,7 @@ frost_round_bit_answer frost_bank_output(frost_bank bank, frost_window window, u
 /* Digit texts: `width` bytes, most significant first; the count of bytes written, 0 when refused. Reading refuses, in
  * this order,
  *   1   a length that is no width;
- *   2   the unit;
+ *   2   a unit outside its range;
  *   13  a byte that is not `+`, `0` or `-`: the place is that of the leftmost;
  *   9   repeated signs: the place is that of the leftmost sign that repeats the sign before it. */
 frost_written frost_digit_text_write(frost_round_bit w, uint8_t *text, size_t room); /* 1, 2, 3, 10 */

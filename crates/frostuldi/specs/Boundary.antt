@@ -32,7 +32,7 @@ use Rattle.frostuldi.specs.declared.FrostWritten.{FrostWritten}
 
 -- which library this is: 10000 * major + 100 * minor + patch
 abbrev pub version : ℕ
-version = 10300
+version = 20000
 
 -- what comes in
 abbrev pub plainIn : FrostPlain → PlainWord
