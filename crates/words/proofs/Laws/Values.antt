@@ -1,10 +1,12 @@
--- The values as `omega` is handed them: `plain-law`, `round-bit-law`, `half-unit-law`; and `three-amounts-differ`. Assumes nothing.
-use Prim.Native.Nat.{ℕ, _+_, _*_}
+-- The values as `omega` is handed them: `plain-law`, `round-bit-law`, `half-unit-law`; how far from 0 one is: `value-abs`; and
+-- `three-amounts-differ`. Assumes nothing.
+use Prim.Native.Nat.{ℕ, _+_, _*_, _≤_, _<_}
 use native.Mathlib.Omega.{arith}
 use mathlib.Core.Path.{_≡_, ap}
-use lib.IntN.{ℤ, pos, _+ℤ_, _*ℤ_}
-use Rattle.integers.proofs.Kit.{up, down, plus-law, times-law}
-use Rattle.words.specs.Words.{value}
+use lib.IntN.{ℤ, pos, natAbs, _+ℤ_, _*ℤ_}
+use lib.Signed.{mag}
+use Rattle.integers.proofs.Kit.{up, down, plus-law, times-law, size-range, by-abs}
+use Rattle.words.specs.Words.{Kind, value}
 use Rattle.words.specs.Words.Kind.{plain, roundBit, halfUnit}
 
 pub plain-law : (x : ℤ) → up (value plain x 0) + 2 * down x ≡ 2 * up x + down (value plain x 0)
@@ -18,6 +20,15 @@ round-bit-law a r = omega (arith, times-law (pos 2) (a +ℤ pos r), plus-law a (
 pub half-unit-law : (w : ℤ) → up (value halfUnit w 0) + 2 * down w ≡ 2 * up w + 1 + down (value halfUnit w 0)
 unfolding value
 half-unit-law w = omega (arith, times-law (pos 2) w, plus-law (pos 2 *ℤ w) (pos 1))
+
+-- of a number below p in size, with a round bit
+pub value-abs : (k : Kind) (x : ℤ) (r p : ℕ) → mag x < p → r ≤ 1 → natAbs (value k x r) ≤ 2 * p
+unfolding value
+value-abs plain x r p h l = by-abs (2 * p) (pos 2 *ℤ x) (omega (arith, size-range p x h, times-law (pos 2) x))
+value-abs roundBit x r p h l =
+    by-abs (2 * p) (pos 2 *ℤ (x +ℤ pos r)) (omega (arith, size-range p x h, times-law (pos 2) (x +ℤ pos r), plus-law x (pos r)))
+value-abs halfUnit x r p h l =
+    by-abs (2 * p) ((pos 2 *ℤ x) +ℤ pos 1) (omega (arith, size-range p x h, times-law (pos 2) x, plus-law (pos 2 *ℤ x) (pos 1)))
 
 -- "The same digits mean three amounts": whatever the digits, as a plain word, as (x,1) and as a half-unit word
 pub three-amounts-differ : (x : ℤ) → (value plain x 0 ≡ value roundBit x 1 → ⊥) × (value plain x 0 ≡ value halfUnit x 0 → ⊥)
