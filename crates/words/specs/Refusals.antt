@@ -6,7 +6,7 @@ use Rattle.words.specs.declared.Cause.{Cause}
 use Rattle.words.specs.declared.Cause.the-variants.{Width, Unit, Number, Mismatch}
 use Rattle.words.specs.declared.Cause.the-variants.{Depth, WidthPast, UnitPast, NumberPast}
 use Rattle.words.specs.declared.Cause.the-variants.{DigitText, Buffer, Mark, Form}
-use Rattle.words.specs.declared.Cause.the-variants.{Byte, Channel}
+use Rattle.words.specs.declared.Cause.the-variants.{Byte, Run, Channel}
 use Rattle.words.specs.declared.Outcome.{Outcome}
 use Rattle.words.specs.declared.Outcome.the-variants.{Done, Refused}
 use Rattle.words.specs.declared.Format.{Format}
@@ -14,12 +14,13 @@ use Rattle.words.specs.declared.WriteAnswer.{WriteAnswer}
 use Rattle.words.specs.Words.{badWidth, badUnit, outside, badRoundBit}
 
 -- the table: each cause once, and below the number of each, which docs/REFUSALS.md has in words.
--- The last two are document 02's. Ask 3: "a byte outside the three is 13, repeated signs stay 9";
--- Ask 1: "17 for a channel over 3"
+-- The last three are document 02's. Ask 3: "a byte outside the three is 13, repeated signs stay 9";
+-- Ask 4: "14 for a run that is empty or passes the end of the block"; Ask 1: "17 for a channel over
+-- 3"
 abbrev pub causes : List Cause
 causes =
     Width ∷ Unit ∷ Number ∷ Mismatch ∷ Depth ∷ WidthPast ∷ UnitPast ∷ NumberPast
-    ∷ DigitText ∷ Buffer ∷ Mark ∷ Form ∷ Byte ∷ Channel ∷ []
+    ∷ DigitText ∷ Buffer ∷ Mark ∷ Form ∷ Byte ∷ Run ∷ Channel ∷ []
 
 abbrev pub causeNumber : Cause → ℕ
 causeNumber Width = 1
@@ -35,6 +36,7 @@ causeNumber Buffer = 10
 causeNumber Mark = 11
 causeNumber Form = 12
 causeNumber Byte = 13
+causeNumber Run = 14
 causeNumber Channel = 17
 
 -- "Done is 0."

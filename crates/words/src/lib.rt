@@ -31,6 +31,7 @@ pub enum Cause {
     Mark,
     Form,
     Byte,
+    Run,
     Channel,
 }
 
@@ -115,6 +116,7 @@ pub fn number_of(o: Outcome) -> u32
             Cause::Mark => 11,
             Cause::Form => 12,
             Cause::Byte => 13,
+            Cause::Run => 14,
             Cause::Channel => 17,
         },
     }
