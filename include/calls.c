@@ -171,6 +171,40 @@ static void places(void)
     HOLDS(reading(read_digits(many), rb(0, 0, 2, 0), FROST_REFUSED_WIDTH, 0));
 }
 
+/* Runs of four records of width 5, (11,1), (-1,1), (3,0), (-16,0): 24, 0, 6 and -32 half units. A zero has no bit set. */
+static frost_reading_answer read_run(uint32_t kind, uint32_t width, size_t rounds_length, size_t first, size_t length)
+{
+    static const int32_t numbers[] = {11, -1, 3, -16};
+    static const uint8_t rounds[] = {1, 1, 0, 0};
+    return frost_reading_of_run(kind, width, numbers, 4, rounds, rounds_length, first, length);
+}
+static int numbers_are(frost_reading_answer a, float lowest, float highest, float first, uint32_t refusal)
+{
+    frost_reading_answer wanted = {{lowest, highest, first}, refusal};
+    return memcmp(&a, &wanted, sizeof a) == 0;
+}
+static void readings(void)
+{
+    static const int32_t ends[] = {8388607, -8388608};
+    static const uint8_t rounds[] = {1, 0};
+    HOLDS(numbers_are(read_run(FROST_KIND_ROUND_BIT, 5, 4, 0, 4), -32, 24, 24, FROST_DONE));
+    HOLDS(numbers_are(read_run(FROST_KIND_ROUND_BIT, 5, 4, 1, 2), 0, 6, 0, FROST_DONE));
+    HOLDS(numbers_are(read_run(FROST_KIND_ROUND_BIT, 5, 4, 3, 1), -32, -32, -32, FROST_DONE));
+    HOLDS(numbers_are(read_run(FROST_KIND_HALF_UNIT, 5, 4, 2, 2), -31, 7, 7, FROST_DONE));
+    HOLDS(numbers_are(read_run(FROST_KIND_HALF_UNIT + 1, 25, 4, 4, 0), 0, 0, 0, FROST_REFUSED_FORM));
+    HOLDS(numbers_are(read_run(FROST_KIND_ROUND_BIT, 25, 3, 4, 0), 0, 0, 0, FROST_REFUSED_FORM));
+    HOLDS(numbers_are(read_run(FROST_KIND_ROUND_BIT, 25, 4, 4, 0), 0, 0, 0, FROST_REFUSED_WIDTH));
+    HOLDS(numbers_are(read_run(FROST_KIND_ROUND_BIT, 5, 4, 4, 0), 0, 0, 0, FROST_REFUSED_RUN));
+    HOLDS(numbers_are(read_run(FROST_KIND_ROUND_BIT, 4, 4, 3, 2), 0, 0, 0, FROST_REFUSED_RUN));
+    HOLDS(numbers_are(read_run(FROST_KIND_ROUND_BIT, 5, 4, SIZE_MAX, 2), 0, 0, 0, FROST_REFUSED_RUN));
+    HOLDS(numbers_are(read_run(FROST_KIND_ROUND_BIT, 5, 4, 1, SIZE_MAX), 0, 0, 0, FROST_REFUSED_RUN));
+    HOLDS(numbers_are(read_run(FROST_KIND_ROUND_BIT, 4, 4, 1, 3), 0, 0, 0, FROST_REFUSED_NUMBER));
+    HOLDS(numbers_are(frost_reading_of_run(FROST_KIND_ROUND_BIT, FROST_MOST_READING_WIDTH, ends, 2, rounds, 2, 0, 2),
+                      -16777216, 16777216, 16777216, FROST_DONE));
+    HOLDS(numbers_are(frost_reading_of_run(FROST_KIND_HALF_UNIT, FROST_MOST_READING_WIDTH, ends, 2, rounds, 2, 1, 1),
+                      -16777215, -16777215, -16777215, FROST_DONE));
+}
+
 /* What the header says of the whole library, tried at both sides of each limit. */
 static void limits(void)
 {
@@ -207,6 +241,7 @@ int main(void)
     filter_bank();
     texts_and_files();
     places();
+    readings();
     limits();
     return failed;
 }

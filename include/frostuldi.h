@@ -20,7 +20,7 @@ extern "C" {
 #endif
 
 /* The version that this header declares, as 10000 * major + 100 * minor + patch. frost_version() tells the archive's. */
-#define FROST_VERSION 20000
+#define FROST_VERSION 20100
 
 /* What `refusal` says. frost_refusal_text() has each in words. */
 enum frost_refusal {
@@ -38,14 +38,15 @@ enum frost_refusal {
     FROST_REFUSED_MARK = 11,
     FROST_REFUSED_FORM = 12,
     FROST_REFUSED_BYTE = 13,
+    FROST_REFUSED_RUN = 14,
     FROST_REFUSED_CHANNEL = 17
 };
 
-/* The kind of a block file's words. */
+/* The kind of a block's words. */
 enum frost_kind { FROST_KIND_PLAIN = 0, FROST_KIND_ROUND_BIT = 1, FROST_KIND_HALF_UNIT = 2 };
 
-/* Limits: widths and units of every word, widths and records of a file, and what a buffer must hold for the longest
- * digit text, file and listing. */
+/* Limits: widths and units of every word, widths and records of a file, widths of a reading, and what a buffer must
+ * hold for the longest digit text, file and listing. */
 enum frost_limit {
     FROST_LEAST_WIDTH = 2,
     FROST_MOST_WIDTH = 63,
@@ -53,6 +54,7 @@ enum frost_limit {
     FROST_MOST_UNIT = 127,
     FROST_MOST_FILE_WIDTH = 32,
     FROST_MOST_RECORDS = 8000,
+    FROST_MOST_READING_WIDTH = 24,
     FROST_LONGEST_DIGIT_TEXT = FROST_MOST_WIDTH,
     FROST_LONGEST_FILE = 12 + 5 * FROST_MOST_RECORDS,
     FROST_LONGEST_LISTING = 248019
@@ -88,6 +90,11 @@ typedef struct { frost_round_bit word; uint32_t refusal, place; } frost_text_ans
 typedef struct { uint32_t refusal, kind, width; int32_t unit; uint32_t count; } frost_file_head;
 typedef struct { uint64_t bytes; uint32_t refusal; } frost_written;
 
+/* A reading, for a plotting desk: the lowest, the highest and the first value of a run of a block's records, each a
+ * whole count of half units, exactly. Zero is the positive zero. */
+typedef struct { float lowest, highest, first; } frost_reading;
+typedef struct { frost_reading reading; uint32_t refusal; } frost_reading_answer;
+
 /* The archive's own version: FROST_VERSION of the header that belongs to it. */
 uint32_t frost_version(void);
 
@@ -96,7 +103,7 @@ static inline const char *frost_refusal_text(uint32_t refusal)
 {
     switch (refusal) {
     case FROST_DONE: return "done";
-    case FROST_REFUSED_WIDTH: return "a width is outside 2 to 63 (2 to 32 in a file)";
+    case FROST_REFUSED_WIDTH: return "a width is outside 2 to 63 (2 to 32 in a file, 2 to 24 for a reading)";
     case FROST_REFUSED_UNIT: return "a unit exponent is outside -127 to 127";
     case FROST_REFUSED_NUMBER:
         return "a number is outside its width, or a round bit is not 0 or 1, or a round byte in a block of kind 0 or 2 is "
@@ -116,8 +123,11 @@ static inline const char *frost_refusal_text(uint32_t refusal)
         return "a digit text has two nonzero digits of one sign with nothing or only zeros between them";
     case FROST_REFUSED_BUFFER: return "a lent buffer is too short for what would be written";
     case FROST_REFUSED_MARK: return "a file's mark or version is wrong";
-    case FROST_REFUSED_FORM: return "a file's length, kind or count is wrong";
+    case FROST_REFUSED_FORM:
+        return "a file's length, kind or count is wrong; or a reading's kind is, or its numbers and round bits are of unlike "
+               "lengths";
     case FROST_REFUSED_BYTE: return "a digit text has a byte that is not `+`, `0` or `-`";
+    case FROST_REFUSED_RUN: return "a reading's run of records is empty or passes the end of the block";
     case FROST_REFUSED_CHANNEL: return "the channel that a filter bank is asked for is over 3";
     default: return "no refusal has this number";
     }
@@ -181,6 +191,16 @@ frost_file_head frost_file_read(const uint8_t *file, size_t length, int32_t *num
 frost_written frost_file_write(uint32_t kind, uint32_t width, int32_t unit, const int32_t *numbers,
                                size_t numbers_length, const uint8_t *rounds, size_t rounds_length, uint8_t *file,
                                size_t room);
+
+/* The reading of the run of `length` records from record `first` on. It needs no unit and takes any number of records.
+ * It refuses, in this order,
+ *   12  a kind over 2, or unlike lengths of numbers and round bits;
+ *   1   a width outside 2 to 24;
+ *   14  a run that is empty or passes the end of the block, whatever `first` and `length` are;
+ *   3   a record of the run. Records outside the run are not looked at.
+ * A refusal answers three positive zeros. */
+frost_reading_answer frost_reading_of_run(uint32_t kind, uint32_t width, const int32_t *numbers, size_t numbers_length,
+                                          const uint8_t *rounds, size_t rounds_length, size_t first, size_t length);
 
 /* The listing of a file as text. A refused file is text, `refused N`; the call itself refuses 10 alone. No listing is
  * longer than FROST_LONGEST_LISTING bytes; in less room than that the text is counted before it is written, which takes longer. */

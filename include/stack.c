@@ -25,6 +25,10 @@ static uint32_t write_file(void)
     return frost_file_write(1, 32, 0, numbers, COUNT, rounds, COUNT, file, sizeof file).refusal;
 }
 static uint32_t read_file(void) { return frost_file_read(file, sizeof file, numbers, COUNT, rounds, COUNT).refusal; }
+static uint32_t read_run(void)
+{
+    return frost_reading_of_run(1, 24, numbers, COUNT, rounds, COUNT, 1, COUNT - 1).refusal;
+}
 static uint32_t list(void) { return frost_listing_text(file, sizeof file, text, sizeof text).refusal; }
 static uint32_t list_counted(void) { return frost_listing_text(file, sizeof file, text, 200000).refusal; }
 static uint32_t list_in_no_room(void) { return frost_listing_text(file, sizeof file, text, 0).refusal; }
@@ -43,6 +47,7 @@ static struct call {
 } calls[] = {
     {"frost_file_write", write_file, 0, 0},
     {"frost_file_read", read_file, 0, 0},
+    {"frost_reading_of_run", read_run, 0, 0},
     {"frost_listing_text", list, 0, 0},
     {"frost_listing_text, counted first", list_counted, 0, 0},
     {"frost_listing_text, refused", list_in_no_room, 10, 0},

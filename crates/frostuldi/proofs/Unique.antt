@@ -33,6 +33,7 @@ use Rattle.frostuldi.proofs.frost_digit_text_write.Reads as frost-digit
 use Rattle.frostuldi.proofs.frost_digit_text_read.Reads as frost-digit-text-read
 use Rattle.frostuldi.proofs.frost_file_read.Reads as frost-file-read
 use Rattle.frostuldi.proofs.frost_file_write.Reads as frost-file-write
+use Rattle.frostuldi.proofs.frost_reading_of_run.Reads as frost-reading-of-run
 use Rattle.frostuldi.proofs.frost_listing_text.Reads as frost-listing-text
 
 frost-version-one : OneResult (frost-version.Post tt)
@@ -136,6 +137,9 @@ frost-file-write-one κs a x y e f p q = p .0 ∙ sym (q .0)
 
 frost-file-write-file : (κs : Lfts 3) → OneBuffer (λ e. now (e .1 .1 .1 .1 .1 .0)) (frost-file-write.Post κs)
 frost-file-write-file κs a x y e f p q = p .1 ∙ sym (q .1)
+
+frost-reading-of-run-one : (κs : Lfts 2) → OneResult (frost-reading-of-run.Post κs)
+frost-reading-of-run-one κs a x y e f p q = p ∙ sym q
 
 frost-listing-text-one : (κs : Lfts 2) → OneResult (frost-listing-text.Post κs)
 frost-listing-text-one κs a x y e f p q = p .0 ∙ sym (q .0)

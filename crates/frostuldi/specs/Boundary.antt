@@ -15,6 +15,8 @@ use Rattle.words.specs.HalfUnit.{halfUnitWord}
 use Rattle.running_sum.specs.declared.RunningSum.{RunningSum}
 use Rattle.digit_text.specs.declared.ReadAnswer.{ReadAnswer as TextAnswer}
 use Rattle.block_file.specs.declared.ReadAnswer.{ReadAnswer}
+use Rattle.reading.specs.declared.Reading.{Reading}
+use Rattle.reading.specs.declared.ReadingAnswer.{ReadingAnswer}
 use Rattle.frostuldi.specs.declared.FrostPlain.{FrostPlain}
 use Rattle.frostuldi.specs.declared.FrostHalfUnit.{FrostHalfUnit}
 use Rattle.frostuldi.specs.declared.FrostRoundBit.{FrostRoundBit}
@@ -29,10 +31,12 @@ use Rattle.frostuldi.specs.declared.FrostWindow.{FrostWindow}
 use Rattle.frostuldi.specs.declared.FrostTextAnswer.{FrostTextAnswer}
 use Rattle.frostuldi.specs.declared.FrostFileHead.{FrostFileHead}
 use Rattle.frostuldi.specs.declared.FrostWritten.{FrostWritten}
+use Rattle.frostuldi.specs.declared.FrostReading.{FrostReading}
+use Rattle.frostuldi.specs.declared.FrostReadingAnswer.{FrostReadingAnswer}
 
 -- which library this is: 10000 * major + 100 * minor + patch
 abbrev pub version : ℕ
-version = 20000
+version = 20100
 
 -- what comes in
 abbrev pub plainIn : FrostPlain → PlainWord
@@ -109,3 +113,9 @@ headOut a = record {
 
 abbrev pub writtenOut : WriteAnswer → FrostWritten
 writtenOut a = record { bytes = a .count; refusal = numberOf (a .outcome) }
+
+abbrev pub flatReading : Reading → FrostReading
+flatReading n = record { lowest = n .lowest; highest = n .highest; first = n .first }
+
+abbrev pub readingOut : ReadingAnswer → FrostReadingAnswer
+readingOut a = record { reading = flatReading (a .reading); refusal = numberOf (a .outcome) }

@@ -9,6 +9,7 @@
 ghost use mathlib.Core.Path.{_≡_};
 ghost use mathlib.Core.List.{map};
 ghost use Prim.Native.Nat.{_<_};
+ghost use lib.IntN.{pos};
 ghost use lib.ListN.{length};
 ghost use Rattle.words.specs.Formats.{format};
 ghost use Rattle.round_bit.specs.Cuts.{signChangeOf, cutOf, restOf, evenCutOf, widenOf};
@@ -23,10 +24,12 @@ ghost use Rattle.digit_text.specs.Reading.{readOf as textReadOf};
 ghost use Rattle.block_file.specs.Layout.{block};
 ghost use Rattle.block_file.specs.Reading.{readOf as fileReadOf, numbersAfter, roundsAfter};
 ghost use Rattle.block_file.specs.Writing.{writeOf as fileWriteOf, fileAfter};
+ghost use Rattle.reading.specs.Readings.{readingOfRun};
 ghost use Rattle.listing_text.specs.Listing.{listOf, textAfter};
-ghost use Rattle.frostuldi.specs.Boundary.{version, plainIn, halfUnitIn, roundBitIn, sumIn, tapsIn, windowIn, bankIn, flatPlain, flatHalfUnit, flatRoundBit, plainOut, halfUnitOut, roundBitOut, sumOut, textOut, headOut, writtenOut};
+ghost use Rattle.frostuldi.specs.Boundary.{version, plainIn, halfUnitIn, roundBitIn, sumIn, tapsIn, windowIn, bankIn, flatPlain, flatHalfUnit, flatRoundBit, plainOut, halfUnitOut, roundBitOut, sumOut, textOut, headOut, writtenOut, readingOut};
 use block_file::ReadAnswer;
 use digit_text::ReadAnswer as TextAnswer;
+use reading::ReadingAnswer;
 use running_sum::RunningSum;
 use words::Format;
 use words::HalfUnit;
@@ -130,6 +133,19 @@ pub struct FrostFileHead {
 #[repr(C)]
 pub struct FrostWritten {
     pub bytes: u64,
+    pub refusal: u32,
+}
+
+#[repr(C)]
+pub struct FrostReading {
+    pub lowest: f32,
+    pub highest: f32,
+    pub first: f32,
+}
+
+#[repr(C)]
+pub struct FrostReadingAnswer {
+    pub reading: FrostReading,
     pub refusal: u32,
 }
 
@@ -339,6 +355,21 @@ fn text_out(a: TextAnswer) -> FrostTextAnswer
         word: word,
         refusal: words::number_of(o),
         place: a.place,
+    }
+}
+
+fn reading_out(a: ReadingAnswer) -> FrostReadingAnswer
+    ensures { λ r. ⌜ r ≡ readingOut a ⌝ }
+{
+    let o = a.outcome;
+    let n = a.reading;
+    FrostReadingAnswer {
+        reading: FrostReading {
+            lowest: n.lowest,
+            highest: n.highest,
+            first: n.first,
+        },
+        refusal: words::number_of(o),
     }
 }
 
@@ -585,10 +616,10 @@ pub extern "C" fn frost_running_sum_empty(s: FrostRunningSum) -> FrostSumAnswer
 pub extern "C" fn frost_version() -> u32
     ensures { λ r. ⌜ r ≡ version ⌝ }
 {
-    20000
+    20100
 }
 
-// Digit texts, block files and listings.
+// Digit texts, block files, readings and listings.
 
 #[no_mangle]
 pub extern "C" fn frost_digit_text_write(w: FrostRoundBit, text: &mut [u8]) -> FrostWritten
@@ -635,6 +666,20 @@ pub extern "C" fn frost_file_write(
         unit: unit,
     };
     written_out(block_file::write(kind, f, numbers, rounds, file))
+}
+
+#[no_mangle]
+pub extern "C" fn frost_reading_of_run(
+    kind: u32,
+    width: u32,
+    numbers: &[i32],
+    rounds: &[u8],
+    first: usize,
+    length: usize,
+) -> FrostReadingAnswer
+    ensures { λ r. ⌜ r ≡ readingOut (readingOfRun (block kind (format width (pos 0)) (now (numbers .entry)) (now (rounds .entry))) first length) ⌝ }
+{
+    reading_out(reading::of_run(kind, width, numbers, rounds, first, length))
 }
 
 #[no_mangle]
