@@ -123,10 +123,10 @@ fn read_texts(record: &mut Record) {
     }
 }
 
-/// All texts of one length over these letters.
-pub fn texts_over(letters: &[u8], length: u32) -> Vec<Vec<u8>> {
+/// All texts of one length over these letters, which may be anything else too.
+pub fn texts_over<T: Copy>(letters: &[T], length: u32) -> Vec<Vec<T>> {
     let count = letters.len();
-    let one = |index: usize| -> Vec<u8> {
+    let one = |index: usize| -> Vec<T> {
         (0..length)
             .map(|place| letters[index / count.pow(place) % count])
             .collect()

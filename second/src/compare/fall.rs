@@ -3,16 +3,19 @@
 
 use super::bank_case::BankCase;
 use super::case::Case;
+use super::reading_case::ReadingCase;
 use std::cell::Cell;
 use std::sync::atomic::{AtomicUsize, Ordering};
 
-/// The operation, its operands if they are words or a bank, and the bytes of its
-/// text or file if it has one; an address is good for as long as the call lasts.
+/// The operation, its operands if they are words, a bank or a reading's, and the
+/// bytes of its text or file if it has one; an address is good for as long as the
+/// call lasts.
 #[derive(Clone, Copy)]
 struct Call {
     name: &'static str,
     case: Option<Case>,
     bank: *const BankCase,
+    reading: *const ReadingCase<'static>,
     bytes: *const u8,
     length: usize,
 }
@@ -21,6 +24,7 @@ const NO_CALL: Call = Call {
     name: "no call",
     case: None,
     bank: std::ptr::null(),
+    reading: std::ptr::null(),
     bytes: std::ptr::null(),
     length: 0,
 };
@@ -74,6 +78,17 @@ pub fn about_to_call_bank(name: &'static str, bank: &BankCase) {
     LAST.with(|last| last.set(call));
 }
 
+/// The records are lent, and so only good for the call as well.
+pub fn about_to_call_reading(name: &'static str, reading: &ReadingCase) {
+    let reading: *const ReadingCase = reading;
+    let call = Call {
+        name,
+        reading: reading.cast(),
+        ..NO_CALL
+    };
+    LAST.with(|last| last.set(call));
+}
+
 /// Outside a library call the bytes may be gone.
 pub fn back() {
     LAST.with(|last| last.set(NO_CALL));
@@ -100,6 +115,9 @@ extern "C" fn fell(number: i32) {
     }
     if !call.bank.is_null() {
         println!("  case:    {}", unsafe { &*call.bank }.describe());
+    }
+    if !call.reading.is_null() {
+        println!("  case:    {}", unsafe { &*call.reading }.describe());
     }
     if !call.bytes.is_null() && call.length > 0 {
         let printed = call.length.min(PRINTED_BYTES);

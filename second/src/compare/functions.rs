@@ -58,6 +58,18 @@ extern "C" {
         out: *mut u8,
         room: usize,
     ) -> FrostWritten;
+
+    pub fn frost_reading_of_run(
+        kind: u32,
+        width: u32,
+        numbers: *const i32,
+        numbers_length: usize,
+        rounds: *const u8,
+        rounds_length: usize,
+        first: usize,
+        length: usize,
+    ) -> FrostReadingAnswer;
+
     pub fn frost_listing_text(
         file: *const u8,
         length: usize,

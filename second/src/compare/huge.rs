@@ -9,6 +9,7 @@ use super::job::Job;
 use super::library::*;
 use super::limits::LAYOUT;
 use super::operations::{FILE_READ, FILE_WRITE, LISTING_CALL, TEXT_READ, TEXT_WRITE};
+use super::reading_case::{self, ReadingCase};
 use super::tally::Record;
 use crate::model::block_file::{self, Block};
 use crate::model::kinds::ROUND_BIT;
@@ -92,6 +93,7 @@ fn all(huge: &mut Huge, record: &mut Record) {
     written_room(huge, record);
     listed_length(huge, record);
     listed_room(huge, record);
+    read_lengths(huge, record);
     // The bytes past the head, looked at once for all calls.
     let changed = huge.slice(SIZE)[HEAD..].iter().position(|byte| *byte != 0);
     record.check(changed.is_none(), || {
@@ -296,4 +298,19 @@ fn listed_room(huge: &mut Huge, record: &mut Record) {
         (second, huge.head()),
         record,
     );
+}
+
+/// The call tells by itself what it fell on; so it comes last.
+fn read_lengths(huge: &mut Huge, record: &mut Record) {
+    huge.hold(&[1]);
+    let block = block(&[5], huge.slice(PAST + 1));
+    let case = ReadingCase {
+        kind: block.kind as u32,
+        width: block.width as u32,
+        numbers: block.numbers,
+        rounds: block.rounds,
+        first: 0,
+        length: 1,
+    };
+    reading_case::compare(&case, record);
 }

@@ -6,6 +6,7 @@ pub use super::functions::*;
 use crate::model::bank::{Bank, Row, CHANNELS, TAPS};
 use crate::model::block_file::Head;
 use crate::model::digit_text::TextAnswer;
+use crate::model::reading::{Reading, ReadingAnswer};
 use crate::model::running_sum::{RunningSum, SumAnswer};
 use crate::model::words::{Answer, HalfUnit, Plain, RoundBit, Written};
 
@@ -263,6 +264,60 @@ impl OfModel for FrostWritten {
     fn model(self) -> Written {
         Written {
             bytes: self.bytes as i128,
+            refusal: self.refusal,
+        }
+    }
+}
+
+/// The model has the bits of each float, and by these the two zeros differ.
+#[repr(C)]
+#[derive(Clone, Copy)]
+pub struct FrostReading {
+    pub lowest: f32,
+    pub highest: f32,
+    pub first: f32,
+}
+
+impl OfModel for FrostReading {
+    type Model = Reading;
+
+    fn of(model: Reading) -> FrostReading {
+        FrostReading {
+            lowest: f32::from_bits(model.lowest),
+            highest: f32::from_bits(model.highest),
+            first: f32::from_bits(model.first),
+        }
+    }
+
+    fn model(self) -> Reading {
+        Reading {
+            lowest: self.lowest.to_bits(),
+            highest: self.highest.to_bits(),
+            first: self.first.to_bits(),
+        }
+    }
+}
+
+#[repr(C)]
+#[derive(Clone, Copy)]
+pub struct FrostReadingAnswer {
+    pub reading: FrostReading,
+    pub refusal: u32,
+}
+
+impl OfModel for FrostReadingAnswer {
+    type Model = ReadingAnswer;
+
+    fn of(model: ReadingAnswer) -> FrostReadingAnswer {
+        FrostReadingAnswer {
+            reading: OfModel::of(model.reading),
+            refusal: model.refusal,
+        }
+    }
+
+    fn model(self) -> ReadingAnswer {
+        ReadingAnswer {
+            reading: self.reading.model(),
             refusal: self.refusal,
         }
     }

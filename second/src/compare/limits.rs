@@ -1,9 +1,9 @@
-//! The limits that the model has from document 01, in the types that the cases
-//! have; cases at an edge are told from here.
+//! The limits that the model has from documents 01 and 02, in the types that the
+//! cases have; cases at an edge are told from here.
 
 use crate::model::kinds::{kind_of, Kind, KINDS};
 use crate::model::layout::{Layout, LAYOUTS, VERSION_1};
-use crate::model::words;
+use crate::model::{reading, words};
 
 pub const LEAST_WIDTH: u32 = words::LEAST_WIDTH as u32;
 pub const MOST_WIDTH: u32 = words::MOST_WIDTH as u32;
@@ -27,6 +27,10 @@ pub const MOST_FILE_WIDTH: u8 = LAYOUT.most_width as u8;
 pub const FILE_WIDTHS: u64 = (MOST_FILE_WIDTH - LEAST_FILE_WIDTH + 1) as u64;
 pub const MOST_RECORDS: usize = LAYOUT.most_records;
 pub const LONGEST_FILE: usize = LAYOUT.longest_file;
+
+/// Readings have widths of their own.
+pub const MOST_READING_WIDTH: u32 = reading::MOST_WIDTH as u32;
+pub const READING_WIDTHS: u64 = (MOST_READING_WIDTH - LEAST_WIDTH + 1) as u64;
 
 /// The version after the last, which is none, in its lower byte.
 pub const NO_VERSION: u8 = LAYOUTS.len() as u8 + 1;

@@ -37,6 +37,18 @@ mod place_texts;
 mod places;
 mod random;
 mod random_cases;
+mod reading_case;
+mod reading_causes;
+mod reading_laws;
+mod reading_random;
+mod reading_records;
+mod reading_refusals;
+mod reading_runs;
+mod reading_sheet;
+mod reading_sheet_refused;
+mod reading_small;
+mod reading_values;
+mod readings;
 mod sums;
 mod tally;
 mod texts;
@@ -75,6 +87,7 @@ fn all_jobs(seed: u64, program: &str) -> Vec<Job> {
     jobs.extend(sums::jobs(seed));
     jobs.extend(bank::jobs(seed));
     jobs.extend(files::jobs(seed));
+    jobs.extend(readings::jobs(seed));
     jobs.extend(listings::jobs(seed, program));
     jobs
 }

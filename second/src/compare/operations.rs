@@ -70,6 +70,10 @@ const OF_FILE_READ: &[u32] =
     and_of_words![BUFFER_TOO_SHORT, MARK_OR_VERSION_WRONG, LENGTH_KIND_OR_COUNT_WRONG];
 /// A writer puts the mark and version itself: no 11.
 const OF_FILE: &[u32] = and_of_words![BUFFER_TOO_SHORT, LENGTH_KIND_OR_COUNT_WRONG];
+/// A reading takes no unit, so no 2, and no buffer to be written, so no 10.
+#[rustfmt::skip]
+const OF_READING: &[u32] =
+    &[WIDTH_OUTSIDE, NUMBER_OUTSIDE, LENGTH_KIND_OR_COUNT_WRONG, RUN_WRONG];
 /// The line `refused N` within the text, 0 for a listing: never 10, since the
 /// listing lends its own buffers.
 #[rustfmt::skip]
@@ -177,6 +181,7 @@ const ELSEWHERE: &[Row] = &[
     Row { name: "frost_digit_text_read", refuses: OF_TEXT_READ },
     Row { name: "frost_file_read", refuses: OF_FILE_READ },
     Row { name: "frost_file_write", refuses: OF_FILE },
+    Row { name: "frost_reading_of_run", refuses: OF_READING },
     Row { name: "frost_listing_text", refuses: &[BUFFER_TOO_SHORT] },
     Row { name: "frost_listing_text, printed", refuses: OF_PRINTED },
     Row { name: "listing program, printed", refuses: OF_PRINTED },
@@ -187,6 +192,7 @@ pub const TEXT_WRITE: usize = row_of("frost_digit_text_write");
 pub const TEXT_READ: usize = row_of("frost_digit_text_read");
 pub const FILE_READ: usize = row_of("frost_file_read");
 pub const FILE_WRITE: usize = row_of("frost_file_write");
+pub const READING_OF_RUN: usize = row_of("frost_reading_of_run");
 pub const LISTING_CALL: usize = row_of("frost_listing_text");
 pub const LISTING_PRINTED: usize = row_of("frost_listing_text, printed");
 pub const PROGRAM_PRINTED: usize = row_of("listing program, printed");

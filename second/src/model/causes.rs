@@ -1,6 +1,6 @@
 //! Document 01, section "Refusal numbers": the table, with what document 02
-//! adds to it and changes in it, and the order in which several causes are
-//! named.
+//! adds to it (13, 14 and 17) and changes in it (9), and the order in which
+//! several causes are named.
 //! Written from documents 01 and 02 alone; it shares nothing with crates/.
 
 /// Makes a name of each number, and the list of them all.
@@ -31,6 +31,7 @@ causes! {
     11 MARK_OR_VERSION_WRONG,
     12 LENGTH_KIND_OR_COUNT_WRONG,
     13 BYTE_WRONG,
+    14 RUN_WRONG,
     17 CHANNEL_OUTSIDE,
 }
 

@@ -1,5 +1,6 @@
 //! Document 01, what sets the kinds of word apart: one row for each. Words,
-//! reader, writer and listing ask the row and know of no kind themselves.
+//! reader, writer, listing and readings ask the row and know of no kind
+//! themselves.
 //! Written from document 01 alone; it shares nothing with crates/.
 
 use super::digits::power;

@@ -4,6 +4,7 @@
 //! knows nothing of the comparison.
 
 pub mod bank;
+pub mod binary32;
 pub mod block_file;
 pub mod causes;
 pub mod digit_text;
@@ -12,6 +13,7 @@ pub mod half_unit;
 pub mod kinds;
 pub mod layout;
 pub mod listing;
+pub mod reading;
 pub mod round_bit;
 pub mod running_sum;
 pub mod words;
