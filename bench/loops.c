@@ -89,6 +89,13 @@ static void write_file(const struct work *w, struct answers *a)
                                   w->rounds_count, a->bytes, w->file_room);
 }
 
+static void read_run(const struct work *w, struct answers *a)
+{
+    const struct run *r = &w->run;
+    a->reading = CALL(reading_of_run)(r->kind, r->width, r->numbers, r->numbers_count, r->rounds, r->rounds_count,
+                                      r->first, r->length);
+}
+
 static void write_listing(const struct work *w, struct answers *a)
 {
     a->written = CALL(listing_text)(w->file, w->length, a->bytes, w->text_room);
@@ -109,6 +116,7 @@ loop *const NAME[LOOPS] = {
     [TEXT_READ] = read_text,
     [READ] = read_file,
     [WRITE] = write_file,
+    [READING] = read_run,
     [LISTING] = write_listing,
     [LISTING_IN_LITTLE_ROOM] = write_listing_in_little_room,
     [EACH_SUM] = each_sum,

@@ -63,6 +63,7 @@ static const struct row {
     {"text-read", TEXT_READ, 1, 20},
     {"read", READ, 1, 100},
     {"write", WRITE, 1, 100},
+    {"reading", READING, 1, 100},
     {"listing", LISTING, 1, 5},
     {"listing-little", LISTING_IN_LITTLE_ROOM, 1, 5},
     {"read-1000", READ, MOST_WORKS, 100},
@@ -86,6 +87,7 @@ static int same(const struct work *w, const struct answers *x, const struct answ
             !same_sum(x->sums[i], y->sums[i]) || !same_text(x->texts[i], y->texts[i]))
             return 0;
     return memcmp(&x->head, &y->head, sizeof x->head) == 0 &&
+           memcmp(&x->reading, &y->reading, sizeof x->reading) == 0 &&
            memcmp(x->numbers, y->numbers, sizeof x->numbers) == 0 &&
            memcmp(x->rounds, y->rounds, sizeof x->rounds) == 0 && x->written.bytes == y->written.bytes &&
            x->written.refusal == y->written.refusal && memcmp(x->bytes, y->bytes, sizeof x->bytes) == 0;
@@ -108,7 +110,7 @@ static int refused(const struct work *w, const struct answers *a)
     for (int i = 0; i < w->words; i++)
         if (a->words[i].refusal != DONE || a->texts[i].refusal != DONE)
             return 1;
-    return a->head.refusal != DONE || a->written.refusal != DONE;
+    return a->head.refusal != DONE || a->reading.refusal != DONE || a->written.refusal != DONE;
 }
 
 static void fail(const char *peer, const char *what)

@@ -19,6 +19,7 @@ enum cause {
     MARK_OR_VERSION_WRONG = 11,
     LENGTH_KIND_OR_COUNT_WRONG = 12,
     BYTE_OUTSIDE = 13,
+    RUN_OUTSIDE = 14,
     CHANNEL_OUTSIDE = 17,
 };
 
@@ -48,6 +49,9 @@ enum {
     /* As the header has it. */
     LONGEST_LISTING = 248019,
 };
+
+/* A reading for the plotting desk. */
+enum { LEAST_READING_WIDTH = LEAST_WIDTH, MOST_READING_WIDTH = 24 };
 
 /* The length of a file of so many records, and so where the record of this index begins. */
 static inline size_t file_size(size_t count)

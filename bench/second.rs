@@ -11,6 +11,7 @@ mod model;
 use library::*;
 use model::block_file::Block;
 use model::layout::VERSION_1;
+use model::reading::{self, Run};
 use model::{bank, block_file, digit_text, listing, round_bit, running_sum};
 use std::slice::{from_raw_parts, from_raw_parts_mut};
 
@@ -120,6 +121,29 @@ pub unsafe extern "C" fn second_file_write(
         block,
         from_raw_parts_mut(file, room),
     ))
+}
+
+/// # Safety
+/// As for reading.
+#[no_mangle]
+pub unsafe extern "C" fn second_reading_of_run(
+    kind: u32,
+    width: u32,
+    numbers: *const i32,
+    numbers_length: usize,
+    rounds: *const u8,
+    rounds_length: usize,
+    first: usize,
+    length: usize,
+) -> FrostReadingAnswer {
+    OfModel::of(reading::of_run(Run {
+        kind: kind as i128,
+        width: width as i128,
+        numbers: from_raw_parts(numbers, numbers_length),
+        rounds: from_raw_parts(rounds, rounds_length),
+        first: first as i128,
+        length: length as i128,
+    }))
 }
 
 /// # Safety

@@ -148,6 +148,19 @@ static void make_texts(struct work *w, uint64_t *state)
     }
 }
 
+/* All records of a block of the widest words that a reading takes. */
+static void make_run(struct run *r, uint64_t *state, uint32_t records)
+{
+    r->kind = ROUND_BIT;
+    r->width = MOST_READING_WIDTH;
+    r->numbers_count = r->rounds_count = r->length = records;
+    r->first = 0;
+    for (uint32_t k = 0; k < records; k++) {
+        r->numbers[k] = (int32_t)number(state, r->width - 1);
+        r->rounds[k] = next(state) & 1;
+    }
+}
+
 /* Widths end at 32 and units at 60, so that no product is refused. */
 void make_work(struct work *w, uint64_t seed, uint32_t records)
 {
@@ -171,6 +184,7 @@ void make_work(struct work *w, uint64_t seed, uint32_t records)
     w->file_room = LONGEST_FILE;
     w->text_room = LONGEST_LISTING;
     w->little_text_room = LONGEST_LISTING - 1;
+    make_run(&w->run, &state, records);
 }
 
 /* A file with a byte or two changed and perhaps a wrong length, and a block and rooms that do not fit it. */
@@ -250,6 +264,26 @@ static void make_odd_texts(struct work *w, uint64_t *state)
     }
 }
 
+/* A run that often passes the end, of records among which some are perhaps too wide, or no good of another kind. */
+static void make_odd_run(struct run *r, uint64_t *state)
+{
+    uint32_t records = below(state, 8);
+    make_run(r, state, records);
+    if (below(state, 2) == 0)
+        r->width = below(state, MOST_READING_WIDTH + WIDTHS_PAST + 1);
+    for (uint32_t k = 0; k < records; k++)
+        if (below(state, 8) != 0 && LEAST_WIDTH <= r->width)
+            r->numbers[k] = (int32_t)number(state, r->width - 1);
+    if (below(state, 4) == 0)
+        r->kind = below(state, KINDS + 1);
+    if (r->kind != ROUND_BIT && below(state, 8) != 0)
+        memset(r->rounds, 0, sizeof r->rounds);
+    if (below(state, 8) == 0)
+        r->rounds_count = below(state, 8);
+    r->first = below(state, 16) == 0 ? next(state) : below(state, records + 1);
+    r->length = below(state, 16) == 0 ? next(state) : below(state, records - (uint32_t)r->first % (records + 1) + 2);
+}
+
 void make_odd_work(struct work *w, uint64_t seed)
 {
     w->words = 16;
@@ -265,4 +299,5 @@ void make_odd_work(struct work *w, uint64_t seed)
     make_odd_block(w, &seed);
     make_odd_banks(w, &seed);
     make_odd_texts(w, &seed);
+    make_odd_run(&w->run, &seed);
 }

@@ -26,6 +26,14 @@ struct text {
     uint8_t bytes[MOST_WIDTH + WIDTHS_PAST];
 };
 
+/* A block that a reading is taken of, and which of its records. */
+struct run {
+    uint32_t kind, width;
+    size_t numbers_count, rounds_count, first, length;
+    int32_t numbers[MOST_RECORDS];
+    uint8_t rounds[MOST_RECORDS];
+};
+
 /* Formats, depths and rooms stand here and not as constants in the loops: a check that the compiler can decide is not
  * the same check. */
 struct work {
@@ -49,6 +57,7 @@ struct work {
     uint8_t file[LONGEST_FILE];
     /* The first text room is enough for any listing; the second is less than that. */
     size_t numbers_room, rounds_room, file_room, text_room, little_text_room;
+    struct run run;
 };
 
 /* What the loops answer; each leaves the places of the others as they were. */
@@ -59,6 +68,7 @@ struct answers {
     frost_file_head head;
     int32_t numbers[MOST_RECORDS];
     uint8_t rounds[MOST_RECORDS];
+    frost_reading_answer reading;
     frost_written written;
     uint8_t bytes[LONGEST_LISTING];
 };
@@ -74,6 +84,7 @@ enum {
     TEXT_READ,
     READ,
     WRITE,
+    READING,
     LISTING,
     LISTING_IN_LITTLE_ROOM,
     EACH_SUM,
