@@ -15,8 +15,8 @@ use Rattle.words.specs.Words.{badWidth, badUnit, outside, badRoundBit}
 
 -- the table: each cause once, and below the number of each, which docs/REFUSALS.md has in words.
 -- The last three are document 02's. Ask 3: "a byte outside the three is 13, repeated signs stay 9";
--- Ask 4: "14 for a run that is empty or passes the end of the block"; Ask 1: "17 for a channel over
--- 3"
+-- Ask 4: "14 for a run that is empty or passes the end of the block";
+-- Ask 1: "17 for a channel over 3"
 abbrev pub causes : List Cause
 causes =
     Width ∷ Unit ∷ Number ∷ Mismatch ∷ Depth ∷ WidthPast ∷ UnitPast ∷ NumberPast
