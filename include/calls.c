@@ -183,7 +183,7 @@ static int numbers_are(frost_reading_answer a, float lowest, float highest, floa
     frost_reading_answer wanted = {{lowest, highest, first}, refusal};
     return memcmp(&a, &wanted, sizeof a) == 0;
 }
-static void readings(void)
+static void desk_readings(void)
 {
     static const int32_t ends[] = {8388607, -8388608};
     static const uint8_t rounds[] = {1, 0};
@@ -241,7 +241,7 @@ int main(void)
     filter_bank();
     texts_and_files();
     places();
-    readings();
+    desk_readings();
     limits();
     return failed;
 }

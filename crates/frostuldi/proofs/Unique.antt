@@ -3,6 +3,9 @@ use mathlib.Core.Path.{sym, _∙_}
 use contract.Lifetimes.{Lfts}
 use denote.Ref.{now}
 use Rattle.integers.specs.OneOutcome.{OneResult, OneBuffer}
+use Rattle.reading.specs.Claims.{OneBits}
+use Rattle.reading.proofs.Laws.Claimed.{answer-bits}
+use Rattle.frostuldi.specs.declared.FrostReadingAnswer.{FrostReadingAnswer}
 use Rattle.frostuldi.proofs.frost_version.Reads as frost-version
 use Rattle.frostuldi.proofs.frost_round_bit_sign_change.Reads as frost-round-bit-sign-change
 use Rattle.frostuldi.proofs.frost_round_bit_cut.Reads as frost-round-bit-cut
@@ -140,6 +143,11 @@ frost-file-write-file κs a x y e f p q = p .1 ∙ sym (q .1)
 
 frost-reading-of-run-one : (κs : Lfts 2) → OneResult (frost-reading-of-run.Post κs)
 frost-reading-of-run-one κs a x y e f p q = p ∙ sym q
+
+-- and the bits of each number that leaves here are told
+frost-reading-of-run-bits : (κs : Lfts 2) (a : _) (x : FrostReadingAnswer) (e : _) → frost-reading-of-run.Post κs a x e →
+    OneBits (x .reading .lowest) × OneBits (x .reading .highest) × OneBits (x .reading .first)
+frost-reading-of-run-bits κs a x e p = rw p (answer-bits _ _ _)
 
 frost-listing-text-one : (κs : Lfts 2) → OneResult (frost-listing-text.Post κs)
 frost-listing-text-one κs a x y e f p q = p .0 ∙ sym (q .0)
