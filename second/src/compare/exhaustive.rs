@@ -108,7 +108,7 @@ fn write_texts(record: &mut Record) {
 fn read_texts(record: &mut Record) {
     for strange in STRANGE {
         for length in 0..=WIDEST {
-            for text in texts_over(&[b'+', b'0', b'-', strange], length) {
+            for text in lists_over(&[b'+', b'0', b'-', strange], length) {
                 for unit in [0, LEAST_UNIT, MOST_UNIT, LEAST_UNIT - 1, MOST_UNIT + 1] {
                     texts::compare_read(&text, unit, record);
                 }
@@ -123,12 +123,12 @@ fn read_texts(record: &mut Record) {
     }
 }
 
-/// All texts of one length over these letters, which may be anything else too.
-pub fn texts_over<T: Copy>(letters: &[T], length: u32) -> Vec<Vec<T>> {
-    let count = letters.len();
+/// All lists of one length over these: texts over letters, blocks over records.
+pub fn lists_over<T: Copy>(these: &[T], length: u32) -> Vec<Vec<T>> {
+    let count = these.len();
     let one = |index: usize| -> Vec<T> {
         (0..length)
-            .map(|place| letters[index / count.pow(place) % count])
+            .map(|place| these[index / count.pow(place) % count])
             .collect()
     };
     (0..count.pow(length)).map(one).collect()

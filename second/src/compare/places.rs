@@ -2,7 +2,7 @@
 //! the one that is wanted by chance, so faults are put there on purpose.
 
 use super::edge_texts::alternating;
-use super::exhaustive::texts_over;
+use super::exhaustive::lists_over;
 use super::job::Job;
 use super::limits::*;
 use super::place_laws::{hold, refusal_of_format};
@@ -68,7 +68,7 @@ fn expect(text: &[u8], unit: i32, fault: Fault, record: &mut Record) {
 /// Here no fault is put: there is every one, and every two.
 fn short_texts(_: &mut Random, record: &mut Record) {
     for length in 0..=LONGEST_OF_FIVE_LETTERS {
-        for text in texts_over(FIVE_LETTERS, length) {
+        for text in lists_over(FIVE_LETTERS, length) {
             for unit in [0, LEAST_UNIT, MOST_UNIT, LEAST_UNIT - 1, MOST_UNIT + 1] {
                 hold(&text, unit, record);
             }

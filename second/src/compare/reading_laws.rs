@@ -110,7 +110,7 @@ fn laws_of_done(values: &[i64], reading: Reading) -> Vec<Law> {
 
 /// What a number is worth, if that is whole; a cast goes toward zero.
 fn count(bits: u32) -> i64 {
-    (f32::from_bits(bits) * 1.0) as i64
+    f32::from_bits(bits) as i64
 }
 
 /// So the cast lost nothing; the negative zero comes back as the positive one.

@@ -2,7 +2,7 @@
 //! has other records outside it, of the same values in another form, and of
 //! values with the other sign. All answers are the library's.
 
-use super::exhaustive::texts_over;
+use super::exhaustive::lists_over;
 use super::limits::*;
 use super::random::Random;
 use super::reading_case::{compare, ReadingCase};
@@ -55,7 +55,7 @@ pub fn adjoining(random: &mut Random, record: &mut Record) {
         (2, 0),
         (0, 2),
     ];
-    for entries in texts_over(&few, 3) {
+    for entries in lists_over(&few, 3) {
         let records = Records::of(&entries);
         for kind in KINDS {
             let whole = records.whole(kind.byte as u32, LEAST_WIDTH);

@@ -1,6 +1,6 @@
 //! All small blocks with all their runs, and with those just past them.
 
-use super::exhaustive::texts_over;
+use super::exhaustive::lists_over;
 use super::limits::*;
 use super::random::Random;
 use super::reading_case::{compare, ReadingCase};
@@ -48,7 +48,7 @@ fn each_run(block: ReadingCase, mut call: impl FnMut(&ReadingCase)) {
 pub fn two_records(_: &mut Random, record: &mut Record) {
     for width in LEAST_WIDTH..=WIDEST {
         for count in 0..=2 {
-            for entries in texts_over(&all_entries(width), count) {
+            for entries in lists_over(&all_entries(width), count) {
                 let records = Records::of(&entries);
                 for kind in 0..=NO_KIND as u32 + 1 {
                     each_run(records.whole(kind, width), |case| {
@@ -73,7 +73,7 @@ pub fn four_records(_: &mut Random, record: &mut Record) {
 }
 
 fn all_blocks(entries: &[Entry], count: u32, width: u32, record: &mut Record) {
-    for entries in texts_over(entries, count) {
+    for entries in lists_over(entries, count) {
         let records = Records::of(&entries);
         for kind in KINDS {
             each_run(records.whole(kind.byte as u32, width), |case| {
