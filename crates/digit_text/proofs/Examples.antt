@@ -1,9 +1,10 @@
--- Document 01's digit texts that are read back, and texts whose fault has a place, computed from the definitions.
+-- Digit texts that are written, those of document 01 that are read back, and texts whose fault has a place, computed from the definitions.
 use mathlib.Core.Path.{_≡_, refl}
 use mathlib.Core.List.{[], _∷_}
 use Prim.Native.Nat.{ℕ}
-use lib.IntN.{ℤ, pos}
+use lib.IntN.{ℤ, pos, negsuc}
 use lib.ListN.{replicate}
+use Rattle.integers.specs.Numbers.{floorBy, lowest, digit}
 use Rattle.integers.specs.Lists.{firstBad}
 use Rattle.words.specs.declared.Cause.{Cause}
 use Rattle.words.specs.declared.Cause.the-variants.{Width, Byte, DigitText}
@@ -12,8 +13,15 @@ use Rattle.words.specs.Formats.{format}
 use Rattle.words.specs.RoundBit.{roundBitWord}
 use Rattle.words.specs.declared.Outcome.the-variants.{Done, Refused}
 use Rattle.digit_text.specs.declared.ReadAnswer.{ReadAnswer}
-use Rattle.digit_text.specs.Digits.{plus, none, minus, digitOf, textValue, signBefore}
+use Rattle.digit_text.specs.Digits.{plus, none, minus, signedDigit, byteOf, byteAt, text, digitOf, textValue, signBefore}
 use Rattle.digit_text.specs.Reading.{strangeAt, repeatsAt, strangePlace, repeatPlace, faultCheck, readCheck, placeOf, readRound, readWord, readOf}
+
+-- the three words of docs/DIGITS.md: P6, its sign change, and its cut by 2
+drawn : (text (roundBitWord (negsuc 717) 0 (format 11 (pos 0))) ≡ minus ∷ plus ∷ minus ∷ none ∷ plus ∷ none ∷ minus ∷ none ∷ plus ∷ minus ∷ none ∷ [])
+    × (text (roundBitWord (pos 717) 1 (format 11 (pos 0))) ≡ plus ∷ minus ∷ plus ∷ none ∷ minus ∷ none ∷ plus ∷ none ∷ minus ∷ plus ∷ none ∷ [])
+    × (text (roundBitWord (negsuc 179) 1 (format 9 (pos 2))) ≡ minus ∷ plus ∷ minus ∷ none ∷ plus ∷ none ∷ minus ∷ none ∷ plus ∷ [])
+unfolding floorBy lowest digit signedDigit byteOf byteAt text
+drawn = (refl, refl, refl)
 
 -- a word of width 2 and unit 0, and a refusal with its place
 abbrev reads : ℤ → ℕ → ReadAnswer

@@ -3,6 +3,7 @@ pub mod Steps
 pub mod Signs
 pub mod GoodTexts
 pub mod Texts
+pub mod Picture
 pub mod Readings
 pub mod Faults
 pub mod Told

@@ -1,7 +1,7 @@
 -- Facts about texts and their digits, for the functions and the laws: a digit's byte, what one byte more does to a text's value and to the
 -- sign before the next place, how large the value can be, and what a passed check of a writing tells. Assumes nothing.
--- Proved here: `byte-none`, `byte-plus`, `byte-minus`, `signed-above`, `digit-range`, `getD-any`, `value-append`, `value-next`, `value-range`,
--- `value-small`, `sign-next`, `bit-le`, `round-le`, `write-room`.
+-- Proved here: `byte-plus`, `byte-minus`, `byte-none`, `digit-range`, `getD-any`, `value-append`, `value-next`, `value-range`,
+-- `value-small`, `sign-next`, `bit-le`, `round-le`, `write-right`, `write-room`.
 use Prim.Native.Nat.{ℕ, zero, suc, _+_, _*_, _-_, _^_, _≤_, _<_}
 use native.Mathlib.Nat.{not-suc-le-zero, le-of-suc-le-suc, lt-of-lt-of-le, mul-le-mul-right, pow-succ'}
 use native.Mathlib.Numerals.{add-one}
@@ -10,41 +10,35 @@ use mathlib.Core.Path.{_≡_, refl, sym, _∙_}
 use mathlib.Core.Bool.{Bool, true, false, cond}
 use mathlib.Core.List.{List, [], _∷_, _++_}
 use lib.Dec.{eqb, ltb}
-use lib.IntN.{ℤ, pos, negsuc, natAbs, _+ℤ_, _-ℤ_, _*ℤ_, zero-*ℤ, +ℤ-idl, +ℤ-assoc}
+use lib.IntN.{ℤ, pos, negsuc, natAbs, _+ℤ_, _*ℤ_, zero-*ℤ, +ℤ-idl, +ℤ-assoc}
+use lib.Signed.{ltZ}
 use lib.ListN.{length, getD, take, length-append}
 use lib.Pow.{pow-add, pow-mono}
 use lib.Seq.{take-suc}
 use borrow.Author.Tests.{ltb-false}
-use Rattle.integers.specs.Numbers.{digit}
-use Rattle.integers.proofs.Kit.{up, down, ints, plus-law, minus-law, times-law, abs-law, one-zero}
+use Rattle.integers.proofs.Kit.{up, down, ints, plus-law, times-law, abs-law, one-zero, lt-true, lt-false}
 use Rattle.integers.proofs.Times.{plus-times, times-assoc}
 use Rattle.words.specs.Refusals.{refuseFor}
 use Rattle.words.specs.RoundBit.{roundBitCheck}
 use Rattle.words.specs.declared.Cause.the-variants.{Buffer}
 use Rattle.words.specs.declared.Outcome.the-variants.{Done}
-use Rattle.words.specs.declared.RoundBit.{RoundBit}
 use Rattle.words.specs.declared.RoundBitWord.{RoundBitWord}
 use Rattle.words.proofs.Laws.{both-passed, passed}
-use Rattle.digit_text.specs.Digits.{plus, none, minus, signedDigit, byteOf, digitOf, textValue, signBefore, writeCheck}
+use Rattle.digit_text.specs.Digits.{plus, none, minus, byteOf, digitOf, textValue, signBefore, writeCheck}
 use Rattle.digit_text.specs.Reading.{readRound}
 
 -- ---- a digit and its byte
-pub byte-none : (x y : ℕ) → x ≡ y → byteOf (pos x -ℤ pos y) ≡ none
+pub byte-plus : (d : ℤ) → ltZ (pos 0) d ≡ true → byteOf d ≡ plus
 unfolding byteOf
-byte-none x y h = let e : pos x -ℤ pos y ≡ pos 0 = omega (ints, minus-law (pos x) (pos y)) in rw e
+byte-plus d p = let e : d ≡ pos (suc (up d - 1)) = omega (ints, lt-true (pos 0) d p, one-zero d) in rw e
 
-pub byte-plus : (x y : ℕ) → y < x → byteOf (pos x -ℤ pos y) ≡ plus
+pub byte-minus : (d : ℤ) → ltZ d (pos 0) ≡ true → byteOf d ≡ minus
 unfolding byteOf
-byte-plus x y h = let e : pos x -ℤ pos y ≡ pos (suc (x - y - 1)) = omega (ints, minus-law (pos x) (pos y)) in rw e
+byte-minus d m = let e : d ≡ negsuc (down d - 1) = omega (ints, lt-true d (pos 0) m, one-zero d) in rw e
 
-pub byte-minus : (x y : ℕ) → x < y → byteOf (pos x -ℤ pos y) ≡ minus
+pub byte-none : (d : ℤ) → ltZ (pos 0) d ≡ false → ltZ d (pos 0) ≡ false → byteOf d ≡ none
 unfolding byteOf
-byte-minus x y h = let e : pos x -ℤ pos y ≡ negsuc (y - x - 1) = omega (ints, minus-law (pos x) (pos y)) in rw e
-
-pub signed-above : (n : RoundBit) (i : ℕ) → 0 < i → signedDigit n i ≡ pos (digit (n .0) (i - 1)) -ℤ pos (digit (n .0) i)
-unfolding signedDigit
-signed-above n zero h = absurd (not-suc-le-zero h)
-signed-above n (suc i) h = let e : suc i - 1 ≡ i = omega arith in rw e
+byte-none d p m = let e : d ≡ pos 0 = omega (ints, lt-false (pos 0) d p, lt-false d (pos 0) m) in rw e
 
 pub digit-range : (b : ℕ) → natAbs (digitOf b) ≤ 1
 unfolding digitOf
@@ -117,7 +111,11 @@ pub round-le : (t : List ℕ) → readRound t ≤ 1
 unfolding readRound
 round-le t = bit-le (eqb (signBefore t (length t)) plus)
 
--- ---- what a passed check of a writing tells: there is room for the text
+-- ---- what a passed check of a writing tells: the word is right, and there is room for the text
+pub write-right : (w : RoundBitWord) (room : ℕ) → writeCheck w room ≡ Done → roundBitCheck w ≡ Done
+unfolding writeCheck
+write-right w room d = both-passed (roundBitCheck w) (refuseFor Buffer (ltb room (w .format .width))) d .0
+
 pub write-room : (w : RoundBitWord) (room : ℕ) → writeCheck w room ≡ Done → w .format .width ≤ room
 unfolding writeCheck
 write-room w room d =

@@ -48,6 +48,10 @@ mistakes =
     write (at 3 (pos 2) 0) (9 ∷ 9 ∷ 9 ∷ 9 ∷ []) 0 3 (none ∷ minus ∷ plus ∷ 9 ∷ [])
     ∷ write (at 3 (pos 0) 1) (9 ∷ 9 ∷ 9 ∷ 9 ∷ []) 0 3 (none ∷ none ∷ none ∷ 9 ∷ [])
     ∷ write (at 3 (pos 2) 0) (9 ∷ 9 ∷ 9 ∷ 9 ∷ []) 0 3 (plus ∷ minus ∷ none ∷ none ∷ [])
+    -- the picture drawn wrong: top and bottom exchanged; of (-2,1), `0-+`, the doubled row without the round bit, and with r = 1 in (2,0)
+    ∷ write (at 3 (pos 2) 0) (9 ∷ 9 ∷ 9 ∷ 9 ∷ []) 0 3 (minus ∷ plus ∷ none ∷ 9 ∷ [])
+    ∷ write (at 3 (negsuc 1) 1) (9 ∷ 9 ∷ 9 ∷ 9 ∷ []) 0 3 (none ∷ minus ∷ none ∷ 9 ∷ [])
+    ∷ write (at 3 (pos 2) 0) (9 ∷ 9 ∷ 9 ∷ 9 ∷ []) 0 3 (plus ∷ minus ∷ plus ∷ 9 ∷ [])
     -- a refusal that writes what there is room for; one that answers a count
     ∷ write (at 3 (pos 2) 0) (9 ∷ 9 ∷ []) 10 0 (plus ∷ minus ∷ [])
     ∷ write (at 3 (pos 2) 0) (9 ∷ 9 ∷ []) 10 3 (9 ∷ 9 ∷ [])

@@ -1,8 +1,8 @@
 // Digit texts: a round-bit word written out in its signed digits, and read back.
 //
-// Digit i is the digit below it less the digit itself, so it is 1, 0 or -1, written `+`, `0`, `-`.
-// The nonzero ones alternate in sign. That is why rounding is cutting digits off, a sign change is
-// turning every digit over, and widening is appending zeros: the text shows all three.
+// Digit i is digit i - 1 of the number less its digit i, with the round bit below the lowest. So it is 1, 0
+// or -1, written `+`, `0`, `-`, and the nonzero ones alternate in sign. Rounding is then cutting digits off, a
+// sign change is turning every digit over, and widening is appending zeros: the text shows all three.
 //
 // Writing touches only the bytes of the text, and none where it refuses. Reading looks for a byte that is
 // none of the three, then for a sign that repeats the one before it, and tells the place of the leftmost;
@@ -11,14 +11,15 @@ ghost use mathlib.Core.Path.{_≡_};
 ghost use mathlib.Core.Bool.{not, cond, _&&_};
 ghost use Prim.Native.Nat.{_≤_};
 ghost use lib.Dec.{eqb, ltb};
-ghost use lib.IntN.{pos, _-ℤ_};
+ghost use lib.IntN.{pos, _+ℤ_, _-ℤ_, _*ℤ_};
 ghost use lib.ListN.{length, getD};
+ghost use Rattle.integers.specs.Numbers.{digit};
 ghost use Rattle.integers.specs.Lists.{over};
 ghost use Rattle.words.specs.Words.{mostWidth};
 ghost use Rattle.words.specs.Refusals.{refuseFor, formatCheck};
 ghost use Rattle.words.specs.Formats.{format};
-ghost use Rattle.words.specs.RoundBit.{roundBitRefused};
-ghost use Rattle.digit_text.specs.Digits.{none, signedDigit, byteOf, digitOf, byteAt, textValue, writeCheck, writeOf, bufferOf};
+ghost use Rattle.words.specs.RoundBit.{roundBitCheck, roundBitRefused};
+ghost use Rattle.digit_text.specs.Digits.{none, byteOf, digitOf, byteAt, textValue, writeCheck, writeOf, bufferOf};
 ghost use Rattle.digit_text.specs.Reading.{strange, strangePlace, repeatPlace, faultCheck, readCheck, finding, readRound, readWord, readOf};
 use words::Cause;
 use words::Format;
@@ -35,28 +36,6 @@ pub struct ReadAnswer {
     pub place: u32,
 }
 
-// A digit's byte: the digit below it less the digit itself.
-fn byte_of(below: u8, here: u8) -> u8
-    ensures { λ b. ⌜ b ≡ byteOf (pos below -ℤ pos here) ⌝ }
-{
-    if below == here {
-        return b'0';
-    }
-    if here < below { b'+' } else { b'-' }
-}
-
-// The byte of digit i, with the round bit below the lowest.
-fn digit_byte(n: RoundBit, i: u64) -> u8
-    ensures { λ b. ⌜ b ≡ byteOf (signedDigit n i) ⌝ }
-{
-    let here = integers::digit(n.0, i);
-    if i == 0 {
-        return byte_of(n.1, here);
-    }
-    let below = integers::digit(n.0, i - 1);
-    byte_of(below, here)
-}
-
 fn write_check(w: RoundBitWord, room: usize) -> Outcome
     ensures { λ r. ⌜ r ≡ writeCheck w room ⌝ }
 {
@@ -67,16 +46,59 @@ fn write_check(w: RoundBitWord, room: usize) -> Outcome
     }
 }
 
-// Fills the first n bytes, most significant first.
+// A text is written by the picture of document 000, section 3.1, equation (1), with the round bit of its
+// Definition 6. On top stands the word doubled, with the round bit in the free place on the right; below it the
+// word; each digit is the top one less the bottom one. P6, -718 at width 11, is `-+-0+0-0+-0`:
+//
+//     (-718,0), width 11
+//     top row, 2a + r    0 1 0 0 1 1 0 0 1 0 0
+//     bottom row, a      1 0 1 0 0 1 1 0 0 1 0
+//     top less bottom    - + - 0 + 0 - 0 + - 0
+//
+// docs/DIGITS.md draws two words more, and says why this is so. The top row's sign is not drawn; with it the top
+// row of a word of 63 digits just fits an i64.
+
+// The top row: 2a + r.
+fn doubled(w: RoundBitWord) -> i64
+    requires { ⌜ roundBitCheck w ≡ Outcome.Done ⌝ }
+    ensures { λ t. ⌜ t ≡ (pos 2 *ℤ w .number .0) +ℤ pos (w .number .1) ⌝ }
+{
+    let a = w.number.0;
+    let r: u8 = w.number.1;
+    2 * a + r as i64
+}
+
+// The digit in the rightmost column of the two rows: the top one less the bottom one.
+fn top_less_bottom(top: i64, bottom: i64) -> i64
+    ensures { λ d. ⌜ d ≡ pos (digit top 0) -ℤ pos (digit bottom 0) ⌝ }
+{
+    integers::digit(top, 0) as i64 - integers::digit(bottom, 0) as i64
+}
+
+// The byte of a digit.
+fn byte_of(d: i64) -> u8
+    ensures { λ b. ⌜ b ≡ byteOf d ⌝ }
+{
+    if 0 < d {
+        return b'+';
+    }
+    if d < 0 { b'-' } else { b'0' }
+}
+
+// Fills the first n bytes; the most significant digit stands in the first. The picture is taken column by column
+// from the right: `columns` of them are still to be written, the others are struck off both rows.
 fn put_text(w: RoundBitWord, n: usize, text: &mut [u8])
-    requires { ⌜ (n ≡ w .format .width) × (n ≤ length (now text)) ⌝ }
+    requires { ⌜ (roundBitCheck w ≡ Outcome.Done) × (n ≡ w .format .width) × (n ≤ length (now text)) ⌝ }
     ensures { λ _. ⌜ now (text .exit) ≡ over n (byteAt w) (now (text .entry)) ⌝ }
 {
-    let m = w.number;
-    let mut k = 0;
-    while k < n {
-        text[k] = digit_byte(m, (n - 1 - k) as u64);
-        k += 1;
+    let mut top_row = doubled(w);
+    let mut bottom_row = w.number.0;
+    let mut columns = n;
+    while 0 < columns {
+        text[columns - 1] = byte_of(top_less_bottom(top_row, bottom_row));
+        top_row = integers::floor_by(top_row, 1);
+        bottom_row = integers::floor_by(bottom_row, 1);
+        columns -= 1;
     }
 }
 

@@ -1,5 +1,5 @@
 -- Written texts: their value, their signs, and what a cut, a widening and a sign change do to them. Assumes nothing.
--- Proved here: `text-is`, `text-length`, `text-value`, `text-good`, `cut-text`, `widen-text`, `sign-text`.
+-- Proved here: `signed-digit-is`, `text-is`, `text-length`, `text-value`, `text-good`, `cut-text`, `widen-text`, `sign-text`.
 use Prim.Native.Nat.{ℕ, zero, suc, _+_, _-_, _*_, _^_, _≤_, _<_}
 use native.Mathlib.Nat.{zero-add, add-zero}
 use native.Mathlib.Omega.{arith}
@@ -32,7 +32,7 @@ use Rattle.digit_text.proofs.Laws.Steps.{bitBelow, digitsText, bit-belo
 use Rattle.digit_text.proofs.Laws.GoodTexts.{steps-no-fault}
 
 -- ---- a text is the steps of its word's bits
-signed-digit-is : (x : RoundBit) (i : ℕ) → signedDigit x i ≡ pos (bitBelow x i) -ℤ pos (digit (x .0) i)
+pub signed-digit-is : (x : RoundBit) (i : ℕ) → signedDigit x i ≡ pos (bitBelow x i) -ℤ pos (digit (x .0) i)
 unfolding signedDigit
 signed-digit-is x zero = refl
 signed-digit-is x (suc i) = refl

@@ -4,7 +4,7 @@ use Rattle.words.specs.declared.Outcome.the-variants.{Done}
 use Rattle.integers.proofs.Lists.{over-front}
 use Rattle.words.specs.Refusals.{lentAfter, writeAnswer}
 use Rattle.digit_text.specs.Digits.{text, writeCheck, writeOf, bufferOf}
-use Rattle.digit_text.proofs.Scan.{write-room}
+use Rattle.digit_text.proofs.Scan.{write-right, write-room}
 use borrow.Author.Needs.{needs}
 use Rattle.digit_text.proofs.write.Statement.{statement}
 use Rattle.digit_text.proofs.write.Tie as tie
@@ -17,7 +17,7 @@ module _ (c : tie.After-enum-told) where
   passed = sym (c .before .before .write-check .ensures) ∙ c .enum-told .given .1
 
 put-text-requires : tie.Need-put-text-requires
-put-text-requires c κs = (refl, write-room _ _ (passed (c .before .before)))
+put-text-requires c κs = let p = passed (c .before .before) in (write-right _ _ p, refl, write-room _ _ p)
 
 returns : tie.Need-returns
 unfolding writeAnswer writeOf lentAfter bufferOf
