@@ -72,6 +72,13 @@ static void channel_output(const struct work *w, struct answers *a)
         a->words[i] = CALL(bank_output)(w->banks[i % BANKS], w->windows[i % WINDOWS], w->channels[i]);
 }
 
+static void write_text(const struct work *w, struct answers *a)
+{
+    for (int i = 0; i < w->words; i++)
+        a->written_texts[i].written =
+            CALL(digit_text_write)(w->writings[i].word, a->written_texts[i].bytes, w->writings[i].room);
+}
+
 static void read_text(const struct work *w, struct answers *a)
 {
     for (int i = 0; i < w->words; i++)
@@ -113,6 +120,7 @@ loop *const NAME[LOOPS] = {
     [PRODUCT] = product,
     [PUT_HAND_OUT] = put_hand_out,
     [BANK] = channel_output,
+    [TEXT_WRITE] = write_text,
     [TEXT_READ] = read_text,
     [READ] = read_file,
     [WRITE] = write_file,

@@ -14,6 +14,9 @@
 #include "work.h"
 
 enum { TURNS = 61, ODD_WORKS = 1000 };
+/* What a lent text buffer holds before the call: neither a digit nor 0, so that a byte written behind the text, or by a
+ * call that refuses, shows. */
+enum { UNWRITTEN = 'u' };
 
 extern loop *const library[LOOPS], *const call[LOOPS], *const inlined[LOOPS], *const second[LOOPS];
 
@@ -60,6 +63,7 @@ static const struct row {
     {"product", PRODUCT, 1, 50},
     {"put-hand-out", PUT_HAND_OUT, 1, 20},
     {"bank", BANK, 1, 20},
+    {"text-write", TEXT_WRITE, 1, 20},
     {"text-read", TEXT_READ, 1, 20},
     {"read", READ, 1, 100},
     {"write", WRITE, 1, 100},
@@ -80,17 +84,28 @@ static int same_text(frost_text_answer x, frost_text_answer y)
     return same_word(x.word, y.word) && x.refusal == y.refusal && x.place == y.place;
 }
 
+static int same_written(frost_written x, frost_written y)
+{
+    return x.bytes == y.bytes && x.refusal == y.refusal;
+}
+
+static int same_written_text(const struct written_text *x, const struct written_text *y)
+{
+    return same_written(x->written, y->written) && memcmp(x->bytes, y->bytes, sizeof x->bytes) == 0;
+}
+
 static int same(const struct work *w, const struct answers *x, const struct answers *y)
 {
     for (int i = 0; i < w->words; i++)
         if (!same_word(x->words[i].word, y->words[i].word) || x->words[i].refusal != y->words[i].refusal ||
-            !same_sum(x->sums[i], y->sums[i]) || !same_text(x->texts[i], y->texts[i]))
+            !same_sum(x->sums[i], y->sums[i]) || !same_text(x->texts[i], y->texts[i]) ||
+            !same_written_text(&x->written_texts[i], &y->written_texts[i]))
             return 0;
     return memcmp(&x->head, &y->head, sizeof x->head) == 0 &&
            memcmp(&x->reading, &y->reading, sizeof x->reading) == 0 &&
            memcmp(x->numbers, y->numbers, sizeof x->numbers) == 0 &&
-           memcmp(x->rounds, y->rounds, sizeof x->rounds) == 0 && x->written.bytes == y->written.bytes &&
-           x->written.refusal == y->written.refusal && memcmp(x->bytes, y->bytes, sizeof x->bytes) == 0;
+           memcmp(x->rounds, y->rounds, sizeof x->rounds) == 0 && same_written(x->written, y->written) &&
+           memcmp(x->bytes, y->bytes, sizeof x->bytes) == 0;
 }
 
 /* All that was handed out is never further apart than one coarse unit. */
@@ -108,7 +123,7 @@ static int near(const struct work *w, const struct answers *x, const struct answ
 static int refused(const struct work *w, const struct answers *a)
 {
     for (int i = 0; i < w->words; i++)
-        if (a->words[i].refusal != DONE || a->texts[i].refusal != DONE)
+        if (a->words[i].refusal != DONE || a->written_texts[i].written.refusal != DONE || a->texts[i].refusal != DONE)
             return 1;
     return a->head.refusal != DONE || a->reading.refusal != DONE || a->written.refusal != DONE;
 }
@@ -119,10 +134,18 @@ static void fail(const char *peer, const char *what)
     exit(1);
 }
 
+static void clear(struct answers *a, int words)
+{
+    memset(a, 0, sizeof *a);
+    for (int i = 0; i < words; i++)
+        memset(a->written_texts[i].bytes, UNWRITTEN, sizeof a->written_texts[i].bytes);
+}
+
 /* Leaves the library's answers of one loop in the first place and the peer's in the second. */
 static void answer(int loop, const struct work *w, const struct peer *peer)
 {
-    memset(answers, 0, sizeof answers);
+    clear(&answers[0], w->words);
+    clear(&answers[1], w->words);
     library[loop](w, &answers[0]);
     peer->loops[loop](w, &answers[1]);
 }

@@ -1,5 +1,36 @@
-/* The C peer's reading of a digit text. */
+/* The C peer's digit text. */
 #include "peer_words.h"
+
+/* 1, 2, 3, 10. */
+static inline uint32_t text_write_cause(frost_round_bit w, size_t room)
+{
+    uint32_t cause = word_cause(w);
+    if (cause == DONE && room < w.width)
+        cause = BUFFER_TOO_SHORT;
+    return cause;
+}
+
+/* A digit is the bit below it less its own, and below the lowest is the round bit: these two bits say its byte. Without
+ * a branch: no processor foresees them, and C would seem slower than it is. */
+static inline void put_digits(uint8_t *text, frost_round_bit w)
+{
+    static const uint8_t digit_bytes[] = {ZERO, PLUS, MINUS, ZERO};
+    /* Number and round bit, moved up so that the two bits of the next digit are the top ones. */
+    uint64_t bits = (2 * (uint64_t)w.number + w.round) << (MOST_WIDTH - w.width);
+    for (uint32_t k = 0; k < w.width; k++) {
+        text[k] = digit_bytes[bits >> 62];
+        bits <<= 1;
+    }
+}
+
+PEER frost_written peer_digit_text_write(frost_round_bit w, uint8_t *text, size_t room)
+{
+    uint32_t cause = text_write_cause(w, room);
+    if (cause != DONE)
+        return (frost_written){0, cause};
+    put_digits(text, w);
+    return (frost_written){w.width, DONE};
+}
 
 /* 1 and 2: the length is the width, and may be more than a width can say. */
 static inline uint32_t text_format_cause(size_t length, int32_t unit)

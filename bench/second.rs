@@ -67,6 +67,17 @@ pub extern "C" fn second_bank_output(
 }
 
 /// # Safety
+/// As the header asks: the pointer is valid for the room.
+#[no_mangle]
+pub unsafe extern "C" fn second_digit_text_write(
+    w: FrostRoundBit,
+    text: *mut u8,
+    room: usize,
+) -> FrostWritten {
+    OfModel::of(digit_text::write(w.model(), from_raw_parts_mut(text, room)))
+}
+
+/// # Safety
 /// As the header asks: the pointer is valid for the length.
 #[no_mangle]
 pub unsafe extern "C" fn second_digit_text_read(

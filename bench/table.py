@@ -9,6 +9,7 @@ ROWS = {
     "product": "product",
     "put-hand-out": "put + hand-out",
     "bank": "bank, one output",
+    "text-write": "digit text written",
     "text-read": "digit text read",
     "read": "file read, 8,000 records",
     "write": "file write, 8,000 records",

@@ -121,9 +121,9 @@ static void make_banks(struct work *w, uint64_t *state)
         w->channels[i] = below(state, CHANNELS);
 }
 
-/* The text of a word of this format: each digit is the bit below it less its own, and below the lowest is the round
- * bit. Behind it lie zeros, so that a longer text has no other fault. */
-static void make_text(struct text *t, uint64_t *state, uint32_t width, int32_t unit)
+/* A word of this format, which is handed back, and its text: each digit is the bit below it less its own, and below the
+ * lowest is the round bit. Behind it lie zeros, so that a longer text has no other fault. */
+static frost_round_bit make_text(struct text *t, uint64_t *state, uint32_t width, int32_t unit)
 {
     frost_round_bit w = word(state, width - 1, width, unit);
     int lower = w.round;
@@ -136,15 +136,17 @@ static void make_text(struct text *t, uint64_t *state, uint32_t width, int32_t u
     }
     t->length = width;
     t->unit = unit;
+    return w;
 }
 
-/* Every width and unit: nothing else can refuse a text of a word. */
+/* Every width and unit: nothing else can refuse a text of a word. The same words are written. */
 static void make_texts(struct work *w, uint64_t *state)
 {
     for (int i = 0; i < w->words; i++) {
         uint32_t width = any_width(state);
         int32_t unit = (int32_t)below(state, MOST_UNIT - LEAST_UNIT + 1) + LEAST_UNIT;
-        make_text(&w->texts[i], state, width, unit);
+        w->writings[i].word = make_text(&w->texts[i], state, width, unit);
+        w->writings[i].room = MOST_WIDTH + WIDTHS_PAST;
     }
 }
 
@@ -284,6 +286,18 @@ static void make_odd_run(struct run *r, uint64_t *state)
     r->length = below(state, 16) == 0 ? next(state) : below(state, records - (uint32_t)r->first % (records + 1) + 2);
 }
 
+/* Any room, or the two between which a refusal begins: just the width, and a byte less. */
+static void make_odd_writings(struct work *w, uint64_t *state)
+{
+    for (struct writing *t = w->writings; t < w->writings + w->words; t++) {
+        int32_t unit = odd_unit(state);
+        t->word = odd_word(state, any_width(state), unit);
+        t->room = below(state, WIDTHS_AND_PAST);
+        if (below(state, 2) == 0 && t->word.width != 0)
+            t->room = t->word.width - below(state, 2);
+    }
+}
+
 void make_odd_work(struct work *w, uint64_t seed)
 {
     w->words = 16;
@@ -300,4 +314,5 @@ void make_odd_work(struct work *w, uint64_t seed)
     make_odd_banks(w, &seed);
     make_odd_texts(w, &seed);
     make_odd_run(&w->run, &seed);
+    make_odd_writings(w, &seed);
 }

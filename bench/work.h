@@ -26,6 +26,12 @@ struct text {
     uint8_t bytes[MOST_WIDTH + WIDTHS_PAST];
 };
 
+/* A word whose digit text is written, and the room that is lent for it. */
+struct writing {
+    frost_round_bit word;
+    size_t room;
+};
+
 /* A block that a reading is taken of, and which of its records. */
 struct run {
     uint32_t kind, width;
@@ -48,6 +54,7 @@ struct work {
     frost_window windows[WINDOWS];
     uint32_t channels[MOST_WORDS];
     struct text texts[MOST_WORDS];
+    struct writing writings[MOST_WORDS];
     uint32_t kind, width;
     int32_t unit;
     size_t numbers_count, rounds_count;
@@ -60,10 +67,17 @@ struct work {
     struct run run;
 };
 
+/* A digit text that was written. The bytes behind it, lent or not, must stay. */
+struct written_text {
+    frost_written written;
+    uint8_t bytes[MOST_WIDTH + WIDTHS_PAST];
+};
+
 /* What the loops answer; each leaves the places of the others as they were. */
 struct answers {
     frost_round_bit_answer words[MOST_WORDS];
     frost_running_sum sums[MOST_WORDS];
+    struct written_text written_texts[MOST_WORDS];
     frost_text_answer texts[MOST_WORDS];
     frost_file_head head;
     int32_t numbers[MOST_RECORDS];
@@ -81,6 +95,7 @@ enum {
     PRODUCT,
     PUT_HAND_OUT,
     BANK,
+    TEXT_WRITE,
     TEXT_READ,
     READ,
     WRITE,
