@@ -55,8 +55,8 @@ fn write_check(w: RoundBitWord, room: usize) -> Outcome
 //     bottom row, a      1 0 1 0 0 1 1 0 0 1 0
 //     top less bottom    - + - 0 + 0 - 0 + - 0
 //
-// docs/DIGITS.md draws two words more, and says why this is so. The top row's sign is not drawn; with it the top
-// row of a word of 63 digits just fits an i64.
+// docs/DIGITS.md draws two words more, and says what the picture shows of cuts and sign changes. The top row's
+// sign is not drawn; with it the top row of a word of 63 digits just fits an i64.
 
 // The top row: 2a + r.
 fn doubled(w: RoundBitWord) -> i64
