@@ -10,7 +10,7 @@
 ghost use mathlib.Core.Path.{_≡_};
 ghost use Prim.Native.Nat.{_-_, _^_, _<_};
 ghost use Rattle.words.specs.Words.{badWidth, badUnit, outside, badRoundBit};
-ghost use Rattle.words.specs.Refusals.{numberOf, refuseFor, _orElse_, formatCheck, wordCheck, differ, refuse, blankFormat};
+ghost use Rattle.words.specs.Refusals.{causeNumber, numberOf, refuseFor, _orElse_, formatCheck, wordCheck, differ, refuse, blankFormat};
 ghost use Rattle.words.specs.Formats.{format, narrower, narrowerCheck, wider, unitsMultiplied, answerCheck, formatAnswer};
 ghost use Rattle.words.specs.Plain.{plainCheck, plainRefused, plainDone, plainFitted};
 ghost use Rattle.words.specs.RoundBit.{roundBitCheck, roundBitRefused, roundBitDone, roundBitFitted};
@@ -32,6 +32,7 @@ pub enum Cause {
     Form,
     Byte,
     Run,
+    NotFinite,
     Channel,
 }
 
@@ -96,29 +97,37 @@ pub struct FormatAnswer {
     pub format: Format,
 }
 
+// The table's number of a cause.
+fn cause_number(c: Cause) -> u32
+    ensures { λ r. ⌜ r ≡ causeNumber c ⌝ }
+{
+    match c {
+        Cause::Width => 1,
+        Cause::Unit => 2,
+        Cause::Number => 3,
+        Cause::Mismatch => 4,
+        Cause::Depth => 5,
+        Cause::WidthPast => 6,
+        Cause::UnitPast => 7,
+        Cause::NumberPast => 8,
+        Cause::DigitText => 9,
+        Cause::Buffer => 10,
+        Cause::Mark => 11,
+        Cause::Form => 12,
+        Cause::Byte => 13,
+        Cause::Run => 14,
+        Cause::NotFinite => 15,
+        Cause::Channel => 17,
+    }
+}
+
 // The number of an outcome: 0 for done, else the table's.
 pub fn number_of(o: Outcome) -> u32
     ensures { λ r. ⌜ r ≡ numberOf o ⌝ }
 {
     match o {
         Outcome::Done => 0,
-        Outcome::Refused(c) => match c {
-            Cause::Width => 1,
-            Cause::Unit => 2,
-            Cause::Number => 3,
-            Cause::Mismatch => 4,
-            Cause::Depth => 5,
-            Cause::WidthPast => 6,
-            Cause::UnitPast => 7,
-            Cause::NumberPast => 8,
-            Cause::DigitText => 9,
-            Cause::Buffer => 10,
-            Cause::Mark => 11,
-            Cause::Form => 12,
-            Cause::Byte => 13,
-            Cause::Run => 14,
-            Cause::Channel => 17,
-        },
+        Outcome::Refused(c) => cause_number(c),
     }
 }
 

@@ -1,5 +1,5 @@
 //! Document 01, section "Refusal numbers": the table, with what document 02
-//! adds to it (13, 14 and 17) and changes in it (9), and the order in which
+//! adds to it (13, 14, 15 and 17) and changes in it (9), and the order in which
 //! several causes are named.
 //! Written from documents 01 and 02 alone; it shares nothing with crates/.
 
@@ -32,6 +32,7 @@ causes! {
     12 LENGTH_KIND_OR_COUNT_WRONG,
     13 BYTE_WRONG,
     14 RUN_WRONG,
+    15 NOT_FINITE,
     17 CHANNEL_OUTSIDE,
 }
 
