@@ -3,6 +3,7 @@ pub mod Times
 pub mod Floor
 pub mod Digits
 pub mod LowDigits
+pub mod Quotients
 pub mod Even
 pub mod Ties
 pub mod Width

@@ -1,10 +1,10 @@
 -- Laws of the digits below an index and of the low digits, at every depth. Assumes nothing.
 -- Proved here: `below-law`, `below-more`, `lowest-below`, `below-range`, `below-turned`, `low-law`, `floor-low-digits`, `low-range`, `any-le`, `none-below`,
--- `some-below`, `low-none`, `none-low`, `fits-digits`, `below-split`, `below-same`, `low-below`, `below-low`.
+-- `some-below`, `low-none`, `none-low`, `fits-digits`, `below-split`, `below-mod`, `below-same`, `low-below`, `below-low`.
 use mathlib.Core.Path.{_≡_, refl, sym, ap, _∙_}
-use Prim.Native.Nat.{ℕ, zero, suc, _+_, _*_, _^_, _<_, _≤_}
+use Prim.Native.Nat.{ℕ, zero, suc, _+_, _*_, _%_, _^_, _<_, _≤_}
 use native.Mathlib.Omega.{arith}
-use native.Mathlib.Nat.{mul-le-mul-right, pow-succ', zero-add, div-eq-of-lt}
+use native.Mathlib.Nat.{mul-le-mul-right, pow-succ', zero-add, div-eq-of-lt, div-add-mod'}
 use lib.Bits.{bitOr, or-lt, or-add-and, and-le-l, and-le-r}
 use lib.Pow.{pow-pos, pow-add}
 use lib.IntN.{ℤ, pos, _+ℤ_, _*ℤ_}
@@ -139,6 +139,10 @@ below-split x k m =
       ap (λ (i : ℕ). up far * i) (pow-add 2 k m),
       ap (λ (i : ℕ). down far * i) (pow-add 2 k m),
     )
+
+pub below-mod : (n k : ℕ) → digitsBelow (pos n) k ≡ n % 2 ^ k
+unfolding floorBy
+below-mod n k = omega (arith, below-law (pos n) k, div-add-mod' n (2 ^ k))
 
 pub below-same : (n k : ℕ) → n < 2 ^ k → digitsBelow (pos n) k ≡ n
 unfolding floorBy

@@ -8,4 +8,4 @@ pub use Rattle.words.proofs.Laws.Table.{cause-of-number, number-of-caus
 pub use Rattle.words.proofs.Laws.Rights.{RightFormat, right-format, format-right, Right, right, word-right, small, machine}
 pub use Rattle.words.proofs.Laws.Rights.{blank-right, plain-right, plain-passes, RightRoundBit, round-bit-right, round-bit-passes}
 pub use Rattle.words.proofs.Laws.Rights.{half-unit-right, half-unit-passes}
-pub use Rattle.words.proofs.Laws.Values.{plain-law, round-bit-law, half-unit-law, value-abs, three-amounts-differ}
+pub use Rattle.words.proofs.Laws.Values.{plain-law, round-bit-law, half-unit-law, half, value-law, value-abs, three-amounts-differ}

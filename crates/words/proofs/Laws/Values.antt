@@ -1,5 +1,5 @@
--- The values as `omega` is handed them: `plain-law`, `round-bit-law`, `half-unit-law`; how far from 0 one is: `value-abs`; and
--- `three-amounts-differ`. Assumes nothing.
+-- The values as `omega` is handed them: `plain-law`, `round-bit-law`, `half-unit-law`, and of any kind `value-law`; how far from 0 one is:
+-- `value-abs`; and `three-amounts-differ`. Assumes nothing.
 use Prim.Native.Nat.{ℕ, _+_, _*_, _≤_, _<_}
 use native.Mathlib.Omega.{arith}
 use mathlib.Core.Path.{_≡_, ap}
@@ -20,6 +20,17 @@ round-bit-law a r = omega (arith, times-law (pos 2) (a +ℤ pos r), plus-law a (
 pub half-unit-law : (w : ℤ) → up (value halfUnit w 0) + 2 * down w ≡ 2 * up w + 1 + down (value halfUnit w 0)
 unfolding value
 half-unit-law w = omega (arith, times-law (pos 2) w, plus-law (pos 2 *ℤ w) (pos 1))
+
+-- of each kind a number x without a round bit is 2 x half units, or 2 x + 1
+abbrev pub half : Kind → ℕ
+half plain = 0
+half roundBit = 0
+half halfUnit = 1
+
+pub value-law : (k : Kind) (x : ℤ) → up (value k x 0) + 2 * down x ≡ 2 * up x + half k + down (value k x 0)
+value-law plain x = omega (arith, plain-law x)
+value-law roundBit x = omega (arith, round-bit-law x 0)
+value-law halfUnit x = half-unit-law x
 
 -- of a number below p in size, with a round bit
 pub value-abs : (k : Kind) (x : ℤ) (r p : ℕ) → mag x < p → r ≤ 1 → natAbs (value k x r) ≤ 2 * p
