@@ -1,0 +1,3 @@
+pub mod Import
+pub mod Parts
+pub mod Claims
