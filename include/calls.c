@@ -205,6 +205,25 @@ static void desk_readings(void)
                       -16777215, -16777215, -16777215, FROST_DONE));
 }
 
+/* Samples: 2.5 is a tie of 2 and 3, and 3 one of the half-odd counts 2.5 and 3.5, whose numbers are 2 and 3. */
+static void samples(void)
+{
+    static const uint64_t infinite = UINT64_C(0x7FF0000000000000), not_a_number = UINT64_C(0xFFF0000000000001);
+    HOLDS(frost_binary64_bits(2.5) == UINT64_C(0x4004000000000000) && frost_binary64_bits(-0.0) == UINT64_C(1) << 63);
+    HOLDS(plain(frost_plain_from_binary64(frost_binary64_bits(2.5), 5, 0), p(2, 5, 0), FROST_DONE));
+    HOLDS(plain(frost_plain_from_binary64(frost_binary64_bits(-3.5), 5, 0), p(-4, 5, 0), FROST_DONE));
+    HOLDS(plain(frost_plain_from_binary64(frost_binary64_bits(2.5), 5, -2), p(10, 5, -2), FROST_DONE));
+    HOLDS(round_bit(frost_round_bit_from_binary64(frost_binary64_bits(2.75), 5, 0), rb(3, 0, 5, 0), FROST_DONE));
+    HOLDS(half_unit(frost_half_unit_from_binary64(frost_binary64_bits(3.0), 5, 0), h(2, 5, 0), FROST_DONE));
+    HOLDS(half_unit(frost_half_unit_from_binary64(frost_binary64_bits(-2.75), 5, 0), h(-3, 5, 0), FROST_DONE));
+    HOLDS(half_unit(frost_half_unit_from_binary64(frost_binary64_bits(-0.0), 5, 1), h(0, 5, 1), FROST_DONE));
+    HOLDS(plain(frost_plain_from_binary64(frost_binary64_bits(15.5), 5, 0), p(0, 2, 0), FROST_REFUSED_NUMBER_PAST));
+    HOLDS(half_unit(frost_half_unit_from_binary64(frost_binary64_bits(2.0), 2, 0), h(0, 2, 0), FROST_REFUSED_NUMBER_PAST));
+    HOLDS(round_bit(frost_round_bit_from_binary64(infinite, 5, 0), rb(0, 0, 2, 0), FROST_REFUSED_NOT_FINITE));
+    HOLDS(plain(frost_plain_from_binary64(not_a_number, 5, 128), p(0, 2, 0), FROST_REFUSED_UNIT));
+    HOLDS(plain(frost_plain_from_binary64(not_a_number, 64, 128), p(0, 2, 0), FROST_REFUSED_WIDTH));
+}
+
 /* What the header says of the whole library, tried at both sides of each limit. */
 static void limits(void)
 {
@@ -242,6 +261,7 @@ int main(void)
     texts_and_files();
     places();
     desk_readings();
+    samples();
     limits();
     return failed;
 }

@@ -5,22 +5,24 @@
  * of the table of refusals. `refusal` is 0 for done. A refusal answers the blank word (number 0, round bit 0, width 2,
  * unit 0), changes no byte of any lent buffer and no digit of a running sum. A unit is the exponent e of 2^e.
  *
- * What no proof covers: these declarations, the stack, and a caller's pointers. No call needs more than 64 KiB of
- * stack. Each pointer must be valid for its length, aligned for its type, and no buffer that is written may overlap
- * another argument. A pointer with length 0 is not looked through, but must not be null: lend any valid address.
+ * What no proof covers: these declarations, the two functions whose bodies stand here, the stack, and a caller's
+ * pointers. No call needs more than 64 KiB of stack. Each pointer must be valid for its length, aligned for its type,
+ * and no buffer that is written may overlap another argument. A pointer with length 0 is not looked through, but must
+ * not be null: lend any valid address.
  */
 #ifndef FROSTULDI_H
 #define FROSTULDI_H
 
 #include <stddef.h>
 #include <stdint.h>
+#include <string.h>
 
 #ifdef __cplusplus
 extern "C" {
 #endif
 
 /* The version that this header declares, as 10000 * major + 100 * minor + patch. frost_version() tells the archive's. */
-#define FROST_VERSION 20100
+#define FROST_VERSION 20200
 
 /* What `refusal` says. frost_refusal_text() has each in words. */
 enum frost_refusal {
@@ -39,6 +41,7 @@ enum frost_refusal {
     FROST_REFUSED_FORM = 12,
     FROST_REFUSED_BYTE = 13,
     FROST_REFUSED_RUN = 14,
+    FROST_REFUSED_NOT_FINITE = 15,
     FROST_REFUSED_CHANNEL = 17
 };
 
@@ -128,6 +131,7 @@ static inline const char *frost_refusal_text(uint32_t refusal)
                "lengths";
     case FROST_REFUSED_BYTE: return "a digit text has a byte that is not `+`, `0` or `-`";
     case FROST_REFUSED_RUN: return "a reading's run of records is empty or passes the end of the block";
+    case FROST_REFUSED_NOT_FINITE: return "a binary64 sample is an infinity or a not-a-number";
     case FROST_REFUSED_CHANNEL: return "the channel that a filter bank is asked for is over 3";
     default: return "no refusal has this number";
     }
@@ -157,6 +161,24 @@ frost_half_unit_answer frost_half_unit_from_round_bit(frost_round_bit w);       
 frost_half_unit_answer frost_half_unit_sum_up(frost_half_unit x, frost_half_unit y);   /* 4, 8 */
 frost_half_unit_answer frost_half_unit_sum_even(frost_half_unit x, frost_half_unit y); /* 4, 8 */
 frost_half_unit_answer frost_half_unit_product(frost_half_unit x, frost_half_unit y);  /* 6, 7 */
+
+/* Samples of a digitiser, by the 64 bits of an IEEE 754 binary64, imported to a word of this width and unit. Plain and
+ * round-bit: the nearest whole count of units, a tie to the even count, round bit 0. Half-unit: the nearest half-odd
+ * count, a tie to the one whose number has its lowest digit clear, so both zeros are 0. It refuses, in this order,
+ *   1, 2  a width or a unit outside its range;
+ *   15    an infinity or a not-a-number;
+ *   8     a number that does not fit the width, after rounding. */
+frost_plain_answer frost_plain_from_binary64(uint64_t bits, uint32_t width, int32_t unit);
+frost_round_bit_answer frost_round_bit_from_binary64(uint64_t bits, uint32_t width, int32_t unit);
+frost_half_unit_answer frost_half_unit_from_binary64(uint64_t bits, uint32_t width, int32_t unit);
+
+/* The bits of a double, for callers who hold one: here a double is a binary64. */
+static inline uint64_t frost_binary64_bits(double value)
+{
+    uint64_t bits;
+    memcpy(&bits, &value, sizeof bits);
+    return bits;
+}
 
 /* The running sum. A refused opening gives a sum that keeps the blank word at depth 0. An opening and a put hand
  * back no word: theirs is the blank one. */

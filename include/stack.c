@@ -37,6 +37,7 @@ static uint32_t read_digits(void) { return frost_digit_text_read(text, word.widt
 static uint32_t multiply(void) { return frost_round_bit_product(word, word).refusal; }
 static uint32_t put(void) { return frost_running_sum_put(sum, word).refusal; }
 static uint32_t hand_out(void) { return frost_running_sum_hand_out(sum).refusal; }
+static uint32_t import_sample(void) { return frost_half_unit_from_binary64(frost_binary64_bits(-2.5), 32, 0).refusal; }
 static uint32_t filter(void) { return frost_bank_output(bank, window, 3).refusal; }
 
 /* In this order: what is written is read behind it. */
@@ -54,6 +55,7 @@ static struct call {
     {"frost_digit_text_write", write_digits, 0, 0},
     {"frost_digit_text_read", read_digits, 0, 0},
     {"frost_round_bit_product", multiply, 0, 0},
+    {"frost_half_unit_from_binary64", import_sample, 0, 0},
     {"frost_running_sum_put", put, 0, 0},
     {"frost_running_sum_hand_out", hand_out, 0, 0},
     {"frost_bank_output", filter, 0, 0},

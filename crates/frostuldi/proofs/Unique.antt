@@ -27,6 +27,9 @@ use Rattle.frostuldi.proofs.frost_half_unit_from_round_bit.Reads as fro
 use Rattle.frostuldi.proofs.frost_half_unit_sum_up.Reads as frost-half-unit-sum-up
 use Rattle.frostuldi.proofs.frost_half_unit_sum_even.Reads as frost-half-unit-sum-even
 use Rattle.frostuldi.proofs.frost_half_unit_product.Reads as frost-half-unit-product
+use Rattle.frostuldi.proofs.frost_plain_from_binary64.Reads as frost-plain-from-binary64
+use Rattle.frostuldi.proofs.frost_round_bit_from_binary64.Reads as frost-round-bit-from-binary64
+use Rattle.frostuldi.proofs.frost_half_unit_from_binary64.Reads as frost-half-unit-from-binary64
 use Rattle.frostuldi.proofs.frost_bank_output.Reads as frost-bank-output
 use Rattle.frostuldi.proofs.frost_running_sum_open.Reads as frost-running-sum-open
 use Rattle.frostuldi.proofs.frost_running_sum_put.Reads as frost-running-sum-put
@@ -101,6 +104,15 @@ frost-half-unit-sum-even-one a x y e f p q = p ∙ sym q
 
 frost-half-unit-product-one : OneResult (frost-half-unit-product.Post tt)
 frost-half-unit-product-one a x y e f p q = p ∙ sym q
+
+frost-plain-from-binary64-one : OneResult (frost-plain-from-binary64.Post tt)
+frost-plain-from-binary64-one a x y e f p q = p ∙ sym q
+
+frost-round-bit-from-binary64-one : OneResult (frost-round-bit-from-binary64.Post tt)
+frost-round-bit-from-binary64-one a x y e f p q = p ∙ sym q
+
+frost-half-unit-from-binary64-one : OneResult (frost-half-unit-from-binary64.Post tt)
+frost-half-unit-from-binary64-one a x y e f p q = p ∙ sym q
 
 frost-bank-output-one : OneResult (frost-bank-output.Post tt)
 frost-bank-output-one a x y e f p q = p ∙ sym q

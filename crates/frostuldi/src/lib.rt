@@ -17,6 +17,7 @@ ghost use Rattle.round_bit.specs.Arithmetic.{sumOf, differenceOf, productOf, to
 ghost use Rattle.half_unit.specs.Cuts.{signChangeOf as halfSignChangeOf, cutOf as halfCutOf};
 ghost use Rattle.half_unit.specs.Conversions.{fromPlainUpOf, fromPlainEvenOf, toPlainOf as halfToPlainOf, toRoundBitOf, fromRoundBitOf};
 ghost use Rattle.half_unit.specs.Arithmetic.{sumUpOf, sumEvenOf, productOf as halfProductOf};
+ghost use Rattle.binary64.specs.Import.{toPlainOf as importPlainOf, toRoundBitOf as importRoundBitOf, toHalfUnitOf as importHalfUnitOf};
 ghost use Rattle.filter_bank.specs.Bank.{rowOf, outputOf};
 ghost use Rattle.running_sum.specs.Steps.{blank, openOf, put, handOut, empty, stepOf};
 ghost use Rattle.digit_text.specs.Digits.{writeOf as textWriteOf, bufferOf};
@@ -553,6 +554,37 @@ pub extern "C" fn frost_half_unit_product(x: FrostHalfUnit, y: FrostHalfUnit) ->
     half_unit_answer(half_unit::product(half_unit_in(x), half_unit_in(y)))
 }
 
+// Samples of a digitiser, by their bits.
+
+#[no_mangle]
+pub extern "C" fn frost_plain_from_binary64(bits: u64, width: u32, unit: i32) -> FrostPlainAnswer
+    ensures { λ r. ⌜ r ≡ plainOut ((importPlainOf bits (format width unit)) .outcome) ((importPlainOf bits (format width unit)) .word) ⌝ }
+{
+    plain_answer(binary64::to_plain(bits, width, unit))
+}
+
+#[no_mangle]
+pub extern "C" fn frost_round_bit_from_binary64(
+    bits: u64,
+    width: u32,
+    unit: i32,
+) -> FrostRoundBitAnswer
+    ensures { λ r. ⌜ r ≡ roundBitOut ((importRoundBitOf bits (format width unit)) .outcome) ((importRoundBitOf bits (format width unit)) .word) ⌝ }
+{
+    round_bit_answer(binary64::to_round_bit(bits, width, unit))
+}
+
+#[no_mangle]
+pub extern "C" fn frost_half_unit_from_binary64(
+    bits: u64,
+    width: u32,
+    unit: i32,
+) -> FrostHalfUnitAnswer
+    ensures { λ r. ⌜ r ≡ halfUnitOut ((importHalfUnitOf bits (format width unit)) .outcome) ((importHalfUnitOf bits (format width unit)) .word) ⌝ }
+{
+    half_unit_answer(binary64::to_half_unit(bits, width, unit))
+}
+
 // The filter bank. Only the channel's own row is read; of a channel that the bank has not, which is refused, any row.
 
 #[no_mangle]
@@ -616,7 +648,7 @@ pub extern "C" fn frost_running_sum_empty(s: FrostRunningSum) -> FrostSumAnswer
 pub extern "C" fn frost_version() -> u32
     ensures { λ r. ⌜ r ≡ version ⌝ }
 {
-    20100
+    20200
 }
 
 // Digit texts, block files, readings and listings.
