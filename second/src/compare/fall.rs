@@ -2,20 +2,22 @@
 //! falls with it. This prints the case that it fell on, then ends with 1.
 
 use super::bank_case::BankCase;
+use super::binary64_case::Binary64Case;
 use super::case::Case;
 use super::reading_case::ReadingCase;
 use std::cell::Cell;
 use std::sync::atomic::{AtomicUsize, Ordering};
 
-/// The operation, its operands if they are words, a bank or a reading's, and the
-/// bytes of its text or file if it has one; an address is good for as long as the
-/// call lasts.
+/// The operation, its operands if they are words, a bank, a reading's or a sample,
+/// and the bytes of its text or file if it has one; an address is good for as long
+/// as the call lasts.
 #[derive(Clone, Copy)]
 struct Call {
     name: &'static str,
     case: Option<Case>,
     bank: *const BankCase,
     reading: *const ReadingCase<'static>,
+    sample: Option<Binary64Case>,
     bytes: *const u8,
     length: usize,
 }
@@ -25,6 +27,7 @@ const NO_CALL: Call = Call {
     case: None,
     bank: std::ptr::null(),
     reading: std::ptr::null(),
+    sample: None,
     bytes: std::ptr::null(),
     length: 0,
 };
@@ -89,6 +92,15 @@ pub fn about_to_call_reading(name: &'static str, reading: &ReadingCase) {
     LAST.with(|last| last.set(call));
 }
 
+pub fn about_to_call_import(name: &'static str, sample: &Binary64Case) {
+    let call = Call {
+        name,
+        sample: Some(*sample),
+        ..NO_CALL
+    };
+    LAST.with(|last| last.set(call));
+}
+
 /// Outside a library call the bytes may be gone.
 pub fn back() {
     LAST.with(|last| last.set(NO_CALL));
@@ -118,6 +130,9 @@ extern "C" fn fell(number: i32) {
     }
     if !call.reading.is_null() {
         println!("  case:    {}", unsafe { &*call.reading }.describe());
+    }
+    if let Some(sample) = call.sample {
+        println!("  case:    {}", sample.describe());
     }
     if !call.bytes.is_null() && call.length > 0 {
         let printed = call.length.min(PRINTED_BYTES);

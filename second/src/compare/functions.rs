@@ -70,6 +70,10 @@ extern "C" {
         length: usize,
     ) -> FrostReadingAnswer;
 
+    pub fn frost_plain_from_binary64(bits: u64, width: u32, unit: i32) -> FrostPlainAnswer;
+    pub fn frost_round_bit_from_binary64(bits: u64, width: u32, unit: i32) -> FrostRoundBitAnswer;
+    pub fn frost_half_unit_from_binary64(bits: u64, width: u32, unit: i32) -> FrostHalfUnitAnswer;
+
     pub fn frost_listing_text(
         file: *const u8,
         length: usize,

@@ -10,6 +10,20 @@ mod bank_sheet;
 mod bank_values;
 mod bank_words;
 mod bench_sheet;
+mod binary64;
+mod binary64_back;
+mod binary64_bits;
+mod binary64_c;
+mod binary64_case;
+mod binary64_causes;
+mod binary64_edges;
+mod binary64_fields;
+mod binary64_laws;
+mod binary64_random;
+mod binary64_sheet;
+mod binary64_sheet_formats;
+mod binary64_sheet_refused;
+mod binary64_small;
 mod blocks;
 mod call;
 mod case;
@@ -88,6 +102,7 @@ fn all_jobs(seed: u64, program: &str) -> Vec<Job> {
     jobs.extend(bank::jobs(seed));
     jobs.extend(files::jobs(seed));
     jobs.extend(readings::jobs(seed));
+    jobs.extend(binary64::jobs(seed));
     jobs.extend(listings::jobs(seed, program));
     jobs
 }

@@ -74,6 +74,10 @@ const OF_FILE: &[u32] = and_of_words![BUFFER_TOO_SHORT, LENGTH_KIND_OR_COUNT_WRO
 #[rustfmt::skip]
 const OF_READING: &[u32] =
     &[WIDTH_OUTSIDE, NUMBER_OUTSIDE, LENGTH_KIND_OR_COUNT_WRONG, RUN_WRONG];
+/// An import takes bits in place of a number, so no 3, and is asked for its width
+/// and unit, so no 6 and no 7.
+#[rustfmt::skip]
+const OF_IMPORT: &[u32] = &[WIDTH_OUTSIDE, UNIT_OUTSIDE, ANSWER_DOES_NOT_FIT, NOT_FINITE];
 /// The line `refused N` within the text, 0 for a listing: never 10, since the
 /// listing lends its own buffers.
 #[rustfmt::skip]
@@ -167,13 +171,15 @@ pub const OPERATIONS: &[Operation] = &[
 pub const SIGN_CHANGE: usize = row_of("frost_round_bit_sign_change");
 pub const CUT: usize = row_of("frost_round_bit_cut");
 pub const EVEN_CUT: usize = row_of("frost_round_bit_even_cut");
+pub const TO_PLAIN: usize = row_of("frost_round_bit_to_plain");
+pub const FROM_PLAIN_EVEN: usize = row_of("frost_half_unit_from_plain_even");
 pub const OPEN: usize = row_of("frost_running_sum_open");
 pub const PUT: usize = row_of("frost_running_sum_put");
 pub const HAND_OUT: usize = row_of("frost_running_sum_hand_out");
 pub const EMPTY: usize = row_of("frost_running_sum_empty");
 
-/// The operations that are called elsewhere, the bank and those with lent
-/// buffers, and what is printed; their rows stand after those of the words.
+/// The operations that are called elsewhere, the bank, those with lent buffers
+/// and the imports, and what is printed; their rows stand after those of the words.
 #[rustfmt::skip]
 const ELSEWHERE: &[Row] = &[
     Row { name: "frost_bank_output", refuses: OF_BANK },
@@ -182,6 +188,9 @@ const ELSEWHERE: &[Row] = &[
     Row { name: "frost_file_read", refuses: OF_FILE_READ },
     Row { name: "frost_file_write", refuses: OF_FILE },
     Row { name: "frost_reading_of_run", refuses: OF_READING },
+    Row { name: "frost_plain_from_binary64", refuses: OF_IMPORT },
+    Row { name: "frost_round_bit_from_binary64", refuses: OF_IMPORT },
+    Row { name: "frost_half_unit_from_binary64", refuses: OF_IMPORT },
     Row { name: "frost_listing_text", refuses: &[BUFFER_TOO_SHORT] },
     Row { name: "frost_listing_text, printed", refuses: OF_PRINTED },
     Row { name: "listing program, printed", refuses: OF_PRINTED },
@@ -193,6 +202,9 @@ pub const TEXT_READ: usize = row_of("frost_digit_text_read");
 pub const FILE_READ: usize = row_of("frost_file_read");
 pub const FILE_WRITE: usize = row_of("frost_file_write");
 pub const READING_OF_RUN: usize = row_of("frost_reading_of_run");
+pub const PLAIN_IMPORT: usize = row_of("frost_plain_from_binary64");
+pub const ROUND_BIT_IMPORT: usize = row_of("frost_round_bit_from_binary64");
+pub const HALF_UNIT_IMPORT: usize = row_of("frost_half_unit_from_binary64");
 pub const LISTING_CALL: usize = row_of("frost_listing_text");
 pub const LISTING_PRINTED: usize = row_of("frost_listing_text, printed");
 pub const PROGRAM_PRINTED: usize = row_of("listing program, printed");

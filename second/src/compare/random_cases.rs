@@ -68,7 +68,7 @@ fn word_of(random: &mut Random, width: u32, unit: i32) -> Operand {
     }
 }
 
-fn width(random: &mut Random) -> u32 {
+pub fn width(random: &mut Random) -> u32 {
     match random.below(32) {
         0 => random.one_of(&[
             0,
@@ -84,7 +84,7 @@ fn width(random: &mut Random) -> u32 {
     }
 }
 
-fn unit(random: &mut Random) -> i32 {
+pub fn unit(random: &mut Random) -> i32 {
     match random.below(32) {
         0 => random.one_of(&[LEAST_UNIT - 1, MOST_UNIT + 1, i32::MIN, i32::MAX, 256]),
         1 => random.next() as i32,

@@ -5,6 +5,7 @@
 
 pub mod bank;
 pub mod binary32;
+pub mod binary64;
 pub mod block_file;
 pub mod causes;
 pub mod digit_text;
@@ -13,6 +14,7 @@ pub mod half_unit;
 pub mod kinds;
 pub mod layout;
 pub mod listing;
+pub mod long;
 pub mod reading;
 pub mod round_bit;
 pub mod running_sum;
