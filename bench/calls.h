@@ -16,6 +16,8 @@
     frost_sum_answer JOIN(who, running_sum_put)(frost_running_sum s, frost_round_bit w);                              \
     frost_sum_answer JOIN(who, running_sum_hand_out)(frost_running_sum s);                                            \
     frost_round_bit_answer JOIN(who, bank_output)(frost_bank bank, frost_window window, uint32_t channel);            \
+    frost_plain_answer JOIN(who, plain_from_binary64)(uint64_t bits, uint32_t width, int32_t unit);                   \
+    frost_half_unit_answer JOIN(who, half_unit_from_binary64)(uint64_t bits, uint32_t width, int32_t unit);           \
     frost_written JOIN(who, digit_text_write)(frost_round_bit w, uint8_t *text, size_t room);                         \
     frost_text_answer JOIN(who, digit_text_read)(const uint8_t *text, size_t length, int32_t unit);                   \
     frost_file_head JOIN(who, file_read)(const uint8_t *file, size_t length, int32_t *numbers, size_t numbers_room,   \

@@ -7,6 +7,7 @@
 #define PEER static inline
 #include "peer.c"
 #include "peer_bank.c"
+#include "peer_import.c"
 #include "peer_text.c"
 #include "peer_file.c"
 #else
@@ -72,6 +73,18 @@ static void channel_output(const struct work *w, struct answers *a)
         a->words[i] = CALL(bank_output)(w->banks[i % BANKS], w->windows[i % WINDOWS], w->channels[i]);
 }
 
+static void import_to_plain(const struct work *w, struct answers *a)
+{
+    for (int i = 0; i < w->words; i++)
+        a->plains[i] = CALL(plain_from_binary64)(w->imports[i].bits, w->imports[i].width, w->imports[i].unit);
+}
+
+static void import_to_half_unit(const struct work *w, struct answers *a)
+{
+    for (int i = 0; i < w->words; i++)
+        a->half_units[i] = CALL(half_unit_from_binary64)(w->imports[i].bits, w->imports[i].width, w->imports[i].unit);
+}
+
 static void write_text(const struct work *w, struct answers *a)
 {
     for (int i = 0; i < w->words; i++)
@@ -120,6 +133,8 @@ loop *const NAME[LOOPS] = {
     [PRODUCT] = product,
     [PUT_HAND_OUT] = put_hand_out,
     [BANK] = channel_output,
+    [IMPORT_PLAIN] = import_to_plain,
+    [IMPORT_HALF] = import_to_half_unit,
     [TEXT_WRITE] = write_text,
     [TEXT_READ] = read_text,
     [READ] = read_file,

@@ -63,6 +63,8 @@ static const struct row {
     {"product", PRODUCT, 1, 50},
     {"put-hand-out", PUT_HAND_OUT, 1, 20},
     {"bank", BANK, 1, 20},
+    {"import-plain", IMPORT_PLAIN, 1, 20},
+    {"import-half", IMPORT_HALF, 1, 20},
     {"text-write", TEXT_WRITE, 1, 20},
     {"text-read", TEXT_READ, 1, 20},
     {"read", READ, 1, 100},
@@ -78,6 +80,18 @@ enum { ROWS = sizeof rows / sizeof *rows };
 
 static struct work works[MOST_WORKS];
 static struct answers answers[2];
+
+static int same_plain(frost_plain_answer x, frost_plain_answer y)
+{
+    return x.word.number == y.word.number && x.word.width == y.word.width && x.word.unit == y.word.unit &&
+           x.refusal == y.refusal;
+}
+
+static int same_half_unit(frost_half_unit_answer x, frost_half_unit_answer y)
+{
+    return x.word.number == y.word.number && x.word.width == y.word.width && x.word.unit == y.word.unit &&
+           x.refusal == y.refusal;
+}
 
 static int same_text(frost_text_answer x, frost_text_answer y)
 {
@@ -99,7 +113,8 @@ static int same(const struct work *w, const struct answers *x, const struct answ
     for (int i = 0; i < w->words; i++)
         if (!same_word(x->words[i].word, y->words[i].word) || x->words[i].refusal != y->words[i].refusal ||
             !same_sum(x->sums[i], y->sums[i]) || !same_text(x->texts[i], y->texts[i]) ||
-            !same_written_text(&x->written_texts[i], &y->written_texts[i]))
+            !same_written_text(&x->written_texts[i], &y->written_texts[i]) ||
+            !same_plain(x->plains[i], y->plains[i]) || !same_half_unit(x->half_units[i], y->half_units[i]))
             return 0;
     return memcmp(&x->head, &y->head, sizeof x->head) == 0 &&
            memcmp(&x->reading, &y->reading, sizeof x->reading) == 0 &&
@@ -123,7 +138,8 @@ static int near(const struct work *w, const struct answers *x, const struct answ
 static int refused(const struct work *w, const struct answers *a)
 {
     for (int i = 0; i < w->words; i++)
-        if (a->words[i].refusal != DONE || a->written_texts[i].written.refusal != DONE || a->texts[i].refusal != DONE)
+        if (a->words[i].refusal != DONE || a->written_texts[i].written.refusal != DONE || a->texts[i].refusal != DONE ||
+            a->plains[i].refusal != DONE || a->half_units[i].refusal != DONE)
             return 1;
     return a->head.refusal != DONE || a->reading.refusal != DONE || a->written.refusal != DONE;
 }

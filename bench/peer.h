@@ -1,6 +1,6 @@
 /* What all parts of the C peer need. The peer is the documents once more in plain C, with the same checks in the same
- * order as the library: peer.c has the words and the running sum, peer_bank.c the filter bank, peer_text.c the digit
- * text, peer_file.c the block file, the reading and the listing.
+ * order as the library: peer.c has the words and the running sum, peer_bank.c the filter bank, peer_import.c the import
+ * of binary64 samples, peer_text.c the digit text, peer_file.c the block file, the reading and the listing.
  *
  * Compiled by itself each part stands behind the same kind of call as the library. A loop that defines PEER as
  * `static inline` and includes all texts has the same C without any call. */

@@ -20,6 +20,7 @@ enum cause {
     LENGTH_KIND_OR_COUNT_WRONG = 12,
     BYTE_OUTSIDE = 13,
     RUN_OUTSIDE = 14,
+    NOT_FINITE = 15,
     CHANNEL_OUTSIDE = 17,
 };
 

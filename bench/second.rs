@@ -12,7 +12,7 @@ use library::*;
 use model::block_file::Block;
 use model::layout::VERSION_1;
 use model::reading::{self, Run};
-use model::{bank, block_file, digit_text, listing, round_bit, running_sum};
+use model::{bank, binary64, block_file, digit_text, listing, round_bit, running_sum};
 use std::slice::{from_raw_parts, from_raw_parts_mut};
 
 #[no_mangle]
@@ -64,6 +64,20 @@ pub extern "C" fn second_bank_output(
     channel: u32,
 ) -> FrostRoundBitAnswer {
     OfModel::of(bank::output(&bank.model(), &window.model(), channel as i128))
+}
+
+#[no_mangle]
+pub extern "C" fn second_plain_from_binary64(bits: u64, width: u32, unit: i32) -> FrostPlainAnswer {
+    OfModel::of(binary64::to_plain(bits, width as i128, unit as i128))
+}
+
+#[no_mangle]
+pub extern "C" fn second_half_unit_from_binary64(
+    bits: u64,
+    width: u32,
+    unit: i32,
+) -> FrostHalfUnitAnswer {
+    OfModel::of(binary64::to_half_unit(bits, width as i128, unit as i128))
 }
 
 /// # Safety

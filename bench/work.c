@@ -1,5 +1,6 @@
-/* The same work in every run: good words, and digit texts of them, whose numbers have every size that their width
- * allows, and odd ones. */
+/* The same work in every run: good words, digit texts of them and samples for them, whose numbers have every size that
+ * their width allows, and odd ones. */
+#include <math.h>
 #include <string.h>
 
 #include "work.h"
@@ -163,6 +164,36 @@ static void make_run(struct run *r, uint64_t *state, uint32_t records)
     }
 }
 
+/* Of a unit: nothing, the half, or any other as fine as a double has it. */
+static double fraction(uint64_t *state)
+{
+    uint32_t chance = below(state, 8);
+    if (chance < 2)
+        return 0.5 * chance;
+    return ldexp((double)(next(state) >> 11), -53);
+}
+
+/* The sample that is worth so many units, as near as a double gets. */
+static uint64_t sample_bits(int64_t whole, double part, int32_t unit)
+{
+    return frost_binary64_bits(ldexp((double)whole + part, unit));
+}
+
+/* Every width and unit, and whole counts of every size that the width allows. Behind the greatest number nothing
+ * follows: rounded up it would not fit. */
+static void make_imports(struct work *w, uint64_t *state)
+{
+    for (struct import *t = w->imports; t < w->imports + w->words; t++) {
+        t->width = any_width(state);
+        t->unit = (int32_t)below(state, MOST_UNIT - LEAST_UNIT + 1) + LEAST_UNIT;
+        int64_t whole = number(state, t->width - 1);
+        double part = fraction(state);
+        if (whole == ((int64_t)1 << (t->width - 1)) - 1)
+            part = 0;
+        t->bits = sample_bits(whole, part, t->unit);
+    }
+}
+
 /* Widths end at 32 and units at 60, so that no product is refused. */
 void make_work(struct work *w, uint64_t seed, uint32_t records)
 {
@@ -187,6 +218,7 @@ void make_work(struct work *w, uint64_t seed, uint32_t records)
     w->text_room = LONGEST_LISTING;
     w->little_text_room = LONGEST_LISTING - 1;
     make_run(&w->run, &state, records);
+    make_imports(w, &state);
 }
 
 /* A file with a byte or two changed and perhaps a wrong length, and a block and rooms that do not fit it. */
@@ -298,8 +330,44 @@ static void make_odd_writings(struct work *w, uint64_t *state)
     }
 }
 
+/* A binary64: 52 digits, the field of its exponent, its sign. */
+enum { FIELD_AT = 52, FIELDS = 2048, SIGN_AT = 63 };
+
+/* With this field. Often without any digits, or with the least or most of them. */
+static uint64_t odd_pattern(uint64_t *state, uint64_t field)
+{
+    uint64_t digits = next(state);
+    if (below(state, 2) == 0)
+        digits = (uint64_t)below(state, 3) - 1;
+    digits &= ((uint64_t)1 << FIELD_AT) - 1;
+    return next(state) << SIGN_AT | field << FIELD_AT | digits;
+}
+
+/* Every second sample has the next field, so that over the works every exponent occurs. The others lie at a number that
+ * may be at the edge of its width, or above it, often by half a unit, and are perhaps the double before or after; or
+ * they have the first field or the last, and so are subnormal, zero, infinite or not a number. */
+static void make_odd_imports(struct work *w, uint64_t *state, uint64_t works_before)
+{
+    for (int i = 0; i < w->words; i++) {
+        int32_t unit = odd_unit(state);
+        frost_round_bit near = odd_word(state, any_width(state), unit);
+        double part = below(state, 2) == 0 ? 0.5 : fraction(state);
+        uint64_t bits = sample_bits(near.number, part, near.unit) + below(state, 3) - 1;
+        if (i % 2 == 0)
+            bits = odd_pattern(state, (works_before * (uint64_t)w->words + (uint64_t)i) / 2 % FIELDS);
+        else if (below(state, 8) == 0)
+            bits = odd_pattern(state, (FIELDS - 1) * below(state, 2));
+        w->imports[i] = (struct import){bits, near.width, near.unit};
+        if (below(state, 32) == 0)
+            w->imports[i].width = (uint32_t)next(state);
+        if (below(state, 32) == 0)
+            w->imports[i].unit = (int32_t)next(state);
+    }
+}
+
 void make_odd_work(struct work *w, uint64_t seed)
 {
+    uint64_t works_before = seed;
     w->words = 16;
     w->sum_width = below(&seed, WIDTHS_AND_PAST);
     w->sum_unit = odd_unit(&seed);
@@ -315,4 +383,5 @@ void make_odd_work(struct work *w, uint64_t seed)
     make_odd_texts(w, &seed);
     make_odd_run(&w->run, &seed);
     make_odd_writings(w, &seed);
+    make_odd_imports(w, &seed, works_before);
 }

@@ -32,6 +32,13 @@ struct writing {
     size_t room;
 };
 
+/* A sample that is imported, by its bits, and the format of the word that it becomes. */
+struct import {
+    uint64_t bits;
+    uint32_t width;
+    int32_t unit;
+};
+
 /* A block that a reading is taken of, and which of its records. */
 struct run {
     uint32_t kind, width;
@@ -65,6 +72,7 @@ struct work {
     /* The first text room is enough for any listing; the second is less than that. */
     size_t numbers_room, rounds_room, file_room, text_room, little_text_room;
     struct run run;
+    struct import imports[MOST_WORDS];
 };
 
 /* A digit text that was written. The bytes behind it, lent or not, must stay. */
@@ -85,6 +93,8 @@ struct answers {
     frost_reading_answer reading;
     frost_written written;
     uint8_t bytes[LONGEST_LISTING];
+    frost_plain_answer plains[MOST_WORDS];
+    frost_half_unit_answer half_units[MOST_WORDS];
 };
 
 /* The last is only checked, on odd work. */
@@ -95,6 +105,8 @@ enum {
     PRODUCT,
     PUT_HAND_OUT,
     BANK,
+    IMPORT_PLAIN,
+    IMPORT_HALF,
     TEXT_WRITE,
     TEXT_READ,
     READ,
