@@ -142,7 +142,7 @@ static void texts_and_files(void)
                                    0x0B, 0, 0, 0, 1, 0xFF, 0xFF, 0xFF, 0xFF, 1};
     static const char listing[] = "RN 5 -2 2\n0 11 1 24\n1 -1 1 0\n";
     uint8_t text[] = "????????????????????????????????", file[32] = {[22] = 7}, rounds[] = {7, 7, 7};
-    int32_t numbers[] = {7, 7, 7};
+    int64_t numbers[] = {7, 7, 7};
     HOLDS(written(frost_digit_text_write(rb(-718, 0, 11, 3), text, 10), 0, 10) && text[0] == '?');
     HOLDS(written(frost_digit_text_write(rb(-718, 0, 11, 3), text, 32), 11, 0));
     HOLDS(memcmp(text, "-+-0+0-0+-0?", 12) == 0);
@@ -153,6 +153,35 @@ static void texts_and_files(void)
     HOLDS(written(frost_file_write(1, 5, -2, numbers, 2, rounds, 2, file, 32), 22, 0));
     HOLDS(memcmp(file, lent, 22) == 0 && file[22] == 7);
     HOLDS(written(frost_listing_text(lent, 22, text, 32), 29, 0) && memcmp(text, listing, 29) == 0 && text[29] == '?');
+}
+
+/* A file of version 2: both ends of width 33. Width 32 in version 2, width 33 in version 1, and version 3. */
+static void longer_words(void)
+{
+    static const uint8_t lent[] = {0x52, 0x4E, 0x42, 2,    0,    1, 33,   0xFF, 2,    0,    0, 0, 0,
+                                   0,    0,    0,    0xFF, 0xFF, 0, 0xFF, 0xFF, 0xFF, 0xFF, 0, 0, 1};
+    static const char listing[] = "RN 33 -1 2\n0 -4294967296 0 -8589934592\n1 4294967295 1 8589934592\n";
+    uint8_t text[] = "????????????????????????????????????????????????????????????????????????", file[32] = {[26] = 7};
+    uint8_t rounds[] = {7, 7, 7}, other[26];
+    int64_t numbers[] = {7, 7, 7};
+    HOLDS(head(frost_file_read(lent, 26, numbers, 3, rounds, 3), 1, 33, -1, 2, FROST_DONE));
+    HOLDS(numbers[0] == -4294967296 && numbers[1] == 4294967295 && numbers[2] == 7 && rounds[0] == 0 && rounds[1] == 1);
+    HOLDS(written(frost_file_write(1, 33, -1, numbers, 2, rounds, 2, file, 32), 26, FROST_DONE));
+    HOLDS(memcmp(file, lent, 26) == 0 && file[26] == 7);
+    HOLDS(written(frost_listing_text(lent, 26, text, sizeof text), sizeof listing - 1, FROST_DONE));
+    HOLDS(memcmp(text, listing, sizeof listing - 1) == 0 && text[sizeof listing - 1] == '?');
+    HOLDS(frost_file_write(1, 32, -1, numbers, 2, rounds, 2, file, 32).refusal == FROST_REFUSED_NUMBER);
+    HOLDS(frost_file_read(lent, 22, numbers, 3, rounds, 3).refusal == FROST_REFUSED_FORM);
+    memcpy(other, lent, sizeof other);
+    other[6] = 32;
+    HOLDS(frost_file_read(other, 26, numbers, 3, rounds, 3).refusal == FROST_REFUSED_WIDTH);
+    other[3] = 1;
+    other[6] = 33;
+    HOLDS(frost_file_read(other, 26, numbers, 3, rounds, 3).refusal == FROST_REFUSED_FORM);
+    other[8] = 0;
+    HOLDS(frost_file_read(other, 12, numbers, 3, rounds, 3).refusal == FROST_REFUSED_WIDTH);
+    other[3] = 3;
+    HOLDS(frost_file_read(other, 12, numbers, 3, rounds, 3).refusal == FROST_REFUSED_MARK);
 }
 
 /* Where a digit text is wrong. */
@@ -174,7 +203,7 @@ static void places(void)
 /* Runs of four records of width 5, (11,1), (-1,1), (3,0), (-16,0): 24, 0, 6 and -32 half units. A zero has no bit set. */
 static frost_reading_answer read_run(uint32_t kind, uint32_t width, size_t rounds_length, size_t first, size_t length)
 {
-    static const int32_t numbers[] = {11, -1, 3, -16};
+    static const int64_t numbers[] = {11, -1, 3, -16};
     static const uint8_t rounds[] = {1, 1, 0, 0};
     return frost_reading_of_run(kind, width, numbers, 4, rounds, rounds_length, first, length);
 }
@@ -185,7 +214,7 @@ static int numbers_are(frost_reading_answer a, float lowest, float highest, floa
 }
 static void desk_readings(void)
 {
-    static const int32_t ends[] = {8388607, -8388608};
+    static const int64_t ends[] = {8388607, -8388608}, far[] = {11, (INT64_C(1) << 32) + 11};
     static const uint8_t rounds[] = {1, 0};
     HOLDS(numbers_are(read_run(FROST_KIND_ROUND_BIT, 5, 4, 0, 4), -32, 24, 24, FROST_DONE));
     HOLDS(numbers_are(read_run(FROST_KIND_ROUND_BIT, 5, 4, 1, 2), 0, 6, 0, FROST_DONE));
@@ -201,6 +230,7 @@ static void desk_readings(void)
     HOLDS(numbers_are(read_run(FROST_KIND_ROUND_BIT, 4, 4, 1, 3), 0, 0, 0, FROST_REFUSED_NUMBER));
     HOLDS(numbers_are(frost_reading_of_run(FROST_KIND_ROUND_BIT, FROST_MOST_READING_WIDTH, ends, 2, rounds, 2, 0, 2),
                       -16777216, 16777216, 16777216, FROST_DONE));
+    HOLDS(numbers_are(frost_reading_of_run(FROST_KIND_ROUND_BIT, 5, far, 2, rounds, 2, 0, 2), 0, 0, 0, FROST_REFUSED_NUMBER));
     HOLDS(numbers_are(frost_reading_of_run(FROST_KIND_HALF_UNIT, FROST_MOST_READING_WIDTH, ends, 2, rounds, 2, 1, 1),
                       -16777215, -16777215, -16777215, FROST_DONE));
 }
@@ -227,7 +257,7 @@ static void samples(void)
 /* What the header says of the whole library, tried at both sides of each limit. */
 static void limits(void)
 {
-    static int32_t numbers[FROST_MOST_RECORDS + 1];
+    static int64_t numbers[FROST_MOST_RECORDS + 1];
     static uint8_t rounds[FROST_MOST_RECORDS + 1], file[FROST_LONGEST_FILE + 1], text[FROST_LONGEST_LISTING];
     size_t most = FROST_MOST_RECORDS;
     HOLDS(frost_version() == FROST_VERSION);
@@ -250,6 +280,9 @@ static void limits(void)
                                    FROST_LONGEST_FILE),
                   FROST_LONGEST_FILE, FROST_DONE));
     HOLDS(frost_listing_text(file, FROST_LONGEST_FILE, text, sizeof text).refusal == FROST_DONE);
+    memset(file, 0, sizeof file);
+    HOLDS(frost_listing_text(file, FROST_LONGEST_FILE, text, 11).bytes == 11 && memcmp(text, "refused 11\n", 11) == 0);
+    HOLDS(frost_listing_text(file, FROST_LONGEST_FILE + 1, text, 11).bytes == 11 && memcmp(text, "refused 12\n", 11) == 0);
 }
 
 int main(void)
@@ -259,6 +292,7 @@ int main(void)
     running_sums();
     filter_bank();
     texts_and_files();
+    longer_words();
     places();
     desk_readings();
     samples();

@@ -22,7 +22,7 @@ extern "C" {
 #endif
 
 /* The version that this header declares, as 10000 * major + 100 * minor + patch. frost_version() tells the archive's. */
-#define FROST_VERSION 20200
+#define FROST_VERSION 30000
 
 /* What `refusal` says. frost_refusal_text() has each in words. */
 enum frost_refusal {
@@ -55,12 +55,12 @@ enum frost_limit {
     FROST_MOST_WIDTH = 63,
     FROST_LEAST_UNIT = -127,
     FROST_MOST_UNIT = 127,
-    FROST_MOST_FILE_WIDTH = 32,
+    FROST_MOST_FILE_WIDTH = 48,
     FROST_MOST_RECORDS = 8000,
     FROST_MOST_READING_WIDTH = 24,
     FROST_LONGEST_DIGIT_TEXT = FROST_MOST_WIDTH,
-    FROST_LONGEST_FILE = 12 + 5 * FROST_MOST_RECORDS,
-    FROST_LONGEST_LISTING = 248019
+    FROST_LONGEST_FILE = 12 + 7 * FROST_MOST_RECORDS,
+    FROST_LONGEST_LISTING = 328019
 };
 
 /* The three kinds of word. Two kinds are two types, also where their fields are alike. A word of unit e is worth
@@ -106,7 +106,7 @@ static inline const char *frost_refusal_text(uint32_t refusal)
 {
     switch (refusal) {
     case FROST_DONE: return "done";
-    case FROST_REFUSED_WIDTH: return "a width is outside 2 to 63 (2 to 32 in a file, 2 to 24 for a reading)";
+    case FROST_REFUSED_WIDTH: return "a width is outside 2 to 63 (2 to 48 in a file, 2 to 24 for a reading)";
     case FROST_REFUSED_UNIT: return "a unit exponent is outside -127 to 127";
     case FROST_REFUSED_NUMBER:
         return "a number is outside its width, or a round bit is not 0 or 1, or a round byte in a block of kind 0 or 2 is "
@@ -207,10 +207,12 @@ frost_written frost_digit_text_write(frost_round_bit w, uint8_t *text, size_t ro
 frost_text_answer frost_digit_text_read(const uint8_t *text, size_t length, int32_t unit);
 
 /* Block files: reading fills the first `count` places of both buffers; refused, kind, width, unit and count are 0,
- * 2, 0 and 0. Reading refuses 12, 11, 12, 1, 2, 3, 10 in this order, writing 12, 1, 2, 3, 10. */
-frost_file_head frost_file_read(const uint8_t *file, size_t length, int32_t *numbers, size_t numbers_room,
+ * 2, 0 and 0. A file of version 1 has widths 2 to 32 and 5 bytes a record, one of version 2 widths 33 to 48 and 7 bytes
+ * a record: the width decides which is written, and 1 refuses a file of the other. Reading refuses 12, 11, 12, 1, 2, 3,
+ * 10 in this order, writing 12, 1, 2, 3, 10. */
+frost_file_head frost_file_read(const uint8_t *file, size_t length, int64_t *numbers, size_t numbers_room,
                                 uint8_t *rounds, size_t rounds_room);
-frost_written frost_file_write(uint32_t kind, uint32_t width, int32_t unit, const int32_t *numbers,
+frost_written frost_file_write(uint32_t kind, uint32_t width, int32_t unit, const int64_t *numbers,
                                size_t numbers_length, const uint8_t *rounds, size_t rounds_length, uint8_t *file,
                                size_t room);
 
@@ -221,7 +223,7 @@ frost_written frost_file_write(uint32_t kind, uint32_t width, int32_t unit, cons
  *   14  a run that is empty or passes the end of the block, whatever `first` and `length` are;
  *   3   a record of the run. Records outside the run are not looked at.
  * A refusal answers three positive zeros. */
-frost_reading_answer frost_reading_of_run(uint32_t kind, uint32_t width, const int32_t *numbers, size_t numbers_length,
+frost_reading_answer frost_reading_of_run(uint32_t kind, uint32_t width, const int64_t *numbers, size_t numbers_length,
                                           const uint8_t *rounds, size_t rounds_length, size_t first, size_t length);
 
 /* The listing of a file as text. A refused file is text, `refused N`; the call itself refuses 10 alone. No listing is

@@ -8,10 +8,10 @@
 
 #include "frostuldi.h"
 
-enum { ALLOWED = 65536, PAINTED = 16 * ALLOWED, PAINT = 0xA5, COUNT = 8000, FILE_SIZE = 12 + 5 * COUNT };
+enum { ALLOWED = 65536, PAINTED = 16 * ALLOWED, PAINT = 0xA5, COUNT = FROST_MOST_RECORDS };
 
-static int32_t numbers[COUNT];
-static uint8_t rounds[COUNT], file[FILE_SIZE], text[300000];
+static int64_t numbers[COUNT];
+static uint8_t rounds[COUNT], file[FROST_LONGEST_FILE], text[FROST_LONGEST_LISTING];
 static const frost_round_bit word = {-1, 32, 0, 1};
 static const frost_running_sum sum = {{0, 32, 0, 0}, 30};
 #define TWICE(...) __VA_ARGS__, __VA_ARGS__
@@ -22,7 +22,7 @@ static const frost_window window = {EIGHT({-1, 16, 0, 1})};
 /* Each answers what it was refused for. */
 static uint32_t write_file(void)
 {
-    return frost_file_write(1, 32, 0, numbers, COUNT, rounds, COUNT, file, sizeof file).refusal;
+    return frost_file_write(1, FROST_MOST_FILE_WIDTH, 0, numbers, COUNT, rounds, COUNT, file, sizeof file).refusal;
 }
 static uint32_t read_file(void) { return frost_file_read(file, sizeof file, numbers, COUNT, rounds, COUNT).refusal; }
 static uint32_t read_run(void)

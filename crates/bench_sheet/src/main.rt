@@ -264,7 +264,7 @@ fn put_front(file: &mut [u8], width: u8, unit: u8, low: u8, high: u8) {
 }
 
 fn print_file(name: &[u8], file: &[u8]) {
-    let mut numbers = [0i32; 8001];
+    let mut numbers = [0i64; 8001];
     let mut rounds = [0u8; 8001];
     let a = block_file::read(file, &mut numbers, &mut rounds);
     let o = a.outcome;

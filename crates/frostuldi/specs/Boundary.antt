@@ -36,7 +36,7 @@ use Rattle.frostuldi.specs.declared.FrostReadingAnswer.{FrostReadingAnsw
 
 -- which library this is: 10000 * major + 100 * minor + patch
 abbrev pub version : ℕ
-version = 20200
+version = 30000
 
 -- what comes in
 abbrev pub plainIn : FrostPlain → PlainWord

@@ -648,7 +648,7 @@ pub extern "C" fn frost_running_sum_empty(s: FrostRunningSum) -> FrostSumAnswer
 pub extern "C" fn frost_version() -> u32
     ensures { λ r. ⌜ r ≡ version ⌝ }
 {
-    20200
+    30000
 }
 
 // Digit texts, block files, readings and listings.
@@ -671,7 +671,7 @@ pub extern "C" fn frost_digit_text_read(text: &[u8], unit: i32) -> FrostTextAnsw
 #[no_mangle]
 pub extern "C" fn frost_file_read(
     file: &[u8],
-    numbers: &mut [i32],
+    numbers: &mut [i64],
     rounds: &mut [u8],
 ) -> FrostFileHead
     ensures { λ r. ⌜ r ≡ headOut (fileReadOf (now (file .entry)) (length (now (numbers .entry))) (length (now (rounds .entry)))) ⌝ }
@@ -686,7 +686,7 @@ pub extern "C" fn frost_file_write(
     kind: u32,
     width: u32,
     unit: i32,
-    numbers: &[i32],
+    numbers: &[i64],
     rounds: &[u8],
     file: &mut [u8],
 ) -> FrostWritten
@@ -704,7 +704,7 @@ pub extern "C" fn frost_file_write(
 pub extern "C" fn frost_reading_of_run(
     kind: u32,
     width: u32,
-    numbers: &[i32],
+    numbers: &[i64],
     rounds: &[u8],
     first: usize,
     length: usize,

@@ -2,7 +2,7 @@
 -- first byte tells whether the file was refused.
 use Prim.Native.Nat.{ℕ}
 use native.Mathlib.Omega.{arith}
-use mathlib.Core.Path.{_≡_, refl, sym, _∙_}
+use mathlib.Core.Path.{_≡_, refl, sym}
 use mathlib.Core.Bool.{Bool, false}
 use mathlib.Core.List.{List, _++_, append-assoc}
 use lib.Dec.{eqb}
@@ -19,7 +19,7 @@ use Rattle.words.specs.Refusals.{writeAnswer, lentAfter}
 use Rattle.block_file.specs.declared.Head.{Head}
 use Rattle.block_file.specs.Kinds.{KindRow, kindRow}
 use Rattle.block_file.proofs.Laws.Kinds.{each-row}
-use Rattle.listing_text.specs.Listing.{listing, listed, listCheck, headLine, refusedLine, roomCheck, listOf, textAfter}
+use Rattle.listing_text.specs.Listing.{listing, longestListing, listed, listCheck, headLine, refusedLine, roomCheck, listOf, textAfter}
 use Rattle.listing_text.proofs.Laws.Lengths.{longest-listing}
 use borrow.Author.Needs.{needs}
 use Rattle.listing.proofs.list_into.Statement.{statement}
@@ -41,7 +41,7 @@ unfolding listed headLine refusedLine
 first-of Done h x r more = (λ e. refl, λ e. simp append-assoc (first-of-kind _ _))
 first-of (Refused c) h x r more = (λ e. cc, λ e. cc)
 
-module _ (file text : List ℕ) (long : length text ≡ 248019) where
+module _ (file text : List ℕ) (long : length text ≡ longestListing) where
   roomy : roomCheck file (length text) ≡ Done
   unfolding roomCheck
   roomy = rw (le-ltb (length text) (length (listing file)) (omega (arith, longest-listing file)))
@@ -66,7 +66,7 @@ returns c =
     let at-args = c .before .before .before .before in
     let file = at-args .args .file .now in
     let text = at-args .args .text .now in
-    let long : length text ≡ 248019 = search needs in
+    let long : length text ≡ longestListing = search needs in
     let listed = c .before .list in
     let count = count-is file text long _ (listed .ensures .0) in
     let after = listed .ensures .1 in (
