@@ -1,5 +1,5 @@
 //! Lists one block file on standard input by the second program, so that its
-//! reading of document 01 can be held to texts written by hand.
+//! reading of documents 01 and 02 can be held to texts written by hand.
 
 mod model;
 

@@ -6,15 +6,15 @@
 use super::blocks;
 use super::call::compare;
 use super::case::{Case, Operand, Reply};
-use super::files_read;
+use super::file_read_case::expect_read;
 use super::job::Job;
-use super::limits::MOST_FILE_WIDTH;
 use super::operations::{row_of, HAND_OUT, OPEN, PUT};
 use super::random::Random;
 use super::tally::Record;
 use super::texts;
 use crate::model::digit_text::TextAnswer;
 use crate::model::kinds::ROUND_BIT;
+use crate::model::layout::VERSION_1;
 use crate::model::running_sum::RunningSum;
 use crate::model::words::{Fields, RoundBit, Word};
 
@@ -195,16 +195,13 @@ fn reads(text: &[u8], refusal: u32, word: Fields, place: i128, record: &mut Reco
     texts::expect_read("bench sheet, a text read", text, 0, by_hand, record);
 }
 
+/// In version 1, which has no width 33; document 02, Ask 7 leaves these as they
+/// are.
 fn block_files(record: &mut Record) {
     let mut random = Random::new(1, 1);
     let mut good = |width: u8, unit: i8, count: usize| {
-        let mut block = blocks::good(
-            &mut random,
-            ROUND_BIT,
-            width.min(MOST_FILE_WIDTH),
-            unit,
-            count,
-        );
+        let good_width = width.min(VERSION_1.most_width as u8);
+        let mut block = blocks::good(&mut random, ROUND_BIT, good_width, unit, count);
         block.width = width;
         block.bytes()
     };
@@ -216,12 +213,7 @@ fn block_files(record: &mut Record) {
         ("unit byte 80", good(9, -128, 3), 2),
     ];
     for (line, file, refusal) in lines {
-        let head = files_read::compare_read(&file, 8_001, 8_001, record);
-        record.check(head.refusal == refusal, || {
-            format!(
-                "bench sheet, {}\n  library: {:?}\n  sheet:   {}",
-                line, head, refusal
-            )
-        });
+        let what = format!("bench sheet, {}", line);
+        expect_read(&what, &file, refusal, record);
     }
 }

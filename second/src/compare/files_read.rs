@@ -1,63 +1,14 @@
-//! Block files read by both programs, with every byte of the buffers.
+//! Block files of every version, read by both programs.
 
 use super::bad_blocks;
-use super::blocks::{self, each_byte_damaged, file_text, RANDOM_FILES};
-use super::fall;
-use super::lent::Lent;
-use super::library::*;
+use super::blocks::{self, each_byte_damaged, RANDOM_FILES};
+use super::file_read_case::{compare_read, version_of};
+use super::limit_blocks;
 use super::limits::*;
-use super::operations::FILE_READ;
 use super::random::Random;
 use super::tally::Record;
-use crate::model::block_file::{self, Head};
 use crate::model::kinds::{Kind, KINDS};
-use crate::model::layout::HEAD_BYTES;
-
-pub fn compare_read(
-    file: &[u8],
-    numbers_room: usize,
-    rounds_room: usize,
-    record: &mut Record,
-) -> Head {
-    let salt = record.cases;
-    let mut lent = Lent::holding_bytes(file, salt);
-    let before = lent.clone();
-    let mut numbers = Lent::numbers(numbers_room, salt);
-    let mut rounds = Lent::bytes(rounds_room, salt);
-    let mut second_numbers = numbers.clone();
-    let mut second_rounds = rounds.clone();
-    fall::about_to_call("frost_file_read", None, file);
-    let answer = unsafe {
-        frost_file_read(
-            lent.pointer(),
-            file.len(),
-            numbers.pointer(),
-            numbers_room,
-            rounds.pointer(),
-            rounds_room,
-        )
-    };
-    fall::back();
-    let library = answer.model();
-    let second = block_file::read(file, second_numbers.lend(), second_rounds.lend());
-    record.answer(FILE_READ, library.refusal);
-    let buffers = numbers == second_numbers && rounds == second_rounds && lent == before;
-    record.check(library == second && buffers, || {
-        format!(
-            "frost_file_read\n  case:    {}, rooms {} and {}\n  library: {:?}\n  second:  {:?}\n  \
-             first that differs (library, second): number {}; round bit {}; byte of the file {}",
-            file_text(file),
-            numbers_room,
-            rounds_room,
-            library,
-            second,
-            numbers.first_difference(&second_numbers),
-            rounds.first_difference(&second_rounds),
-            lent.first_difference(&before)
-        )
-    });
-    library
-}
+use crate::model::layout::{Layout, HEAD_BYTES, LAYOUTS};
 
 /// Buffers of the exact length, longer, shorter and empty, each with each.
 fn read_into_all_rooms(file: &[u8], count: usize, record: &mut Record) {
@@ -83,24 +34,16 @@ pub fn good(random: &mut Random, record: &mut Record) {
     compare_read(&blocks::IN_THE_DOCUMENT, 2, 2, record);
 }
 
-/// The ends, and both sides of every byte.
-const WIDTHS_TO_DAMAGE: [u8; 11] = [
-    LEAST_FILE_WIDTH,
-    LEAST_FILE_WIDTH + 1,
-    7,
-    8,
-    9,
-    15,
-    16,
-    17,
-    24,
-    MOST_FILE_WIDTH - 1,
-    MOST_FILE_WIDTH,
-];
+/// The ends of each version, and both sides of every byte.
+fn widths_to_damage() -> Vec<u8> {
+    let mut widths = all_end_widths();
+    widths.extend([7, 8, 9, 15, 16, 17, 24, 39, 40, 41]);
+    widths
+}
 
 /// Every byte of small files gets every other value.
 pub fn damaged(kind: Kind, random: &mut Random, record: &mut Record) {
-    for width in WIDTHS_TO_DAMAGE {
+    for width in widths_to_damage() {
         for count in 0..3 {
             let file = blocks::good(random, kind, width, 5, count).bytes();
             each_byte_damaged(&file, |damaged| {
@@ -108,9 +51,16 @@ pub fn damaged(kind: Kind, random: &mut Random, record: &mut Record) {
             });
         }
     }
-    // Long files, in a few places: the last record counts like the first.
-    let start = |record: usize| LAYOUT.file_bytes(record);
-    let (middle, last) = (MOST_RECORDS / 2, MOST_RECORDS - 1);
+    for &layout in LAYOUTS {
+        long_damaged(kind, layout, random, record);
+    }
+}
+
+/// Long files, in a few places: the last record counts like the first.
+fn long_damaged(kind: Kind, layout: Layout, random: &mut Random, record: &mut Record) {
+    let start = |record: usize| layout.file_bytes(record);
+    let most = layout.most_records;
+    let (middle, last) = (most / 2, most - 1);
     let places = [
         start(0),
         start(1) - 1,
@@ -119,15 +69,15 @@ pub fn damaged(kind: Kind, random: &mut Random, record: &mut Record) {
         start(middle),
         start(last) - 1,
         start(last),
-        LONGEST_FILE - 2,
-        LONGEST_FILE - 1,
+        start(most) - 2,
+        start(most) - 1,
     ];
-    for width in [4, MOST_FILE_WIDTH] {
-        let file = blocks::good(random, kind, width, -5, MOST_RECORDS).bytes();
+    for width in [layout.least_width as u8 + 2, layout.most_width as u8] {
+        let file = blocks::good(random, kind, width, -5, most).bytes();
         for place in places {
             let mut damaged = file.clone();
             damaged[place] ^= random.one_of(&[0x01, 0x40, 0x80, 0xFF]);
-            compare_read(&damaged, MOST_RECORDS, MOST_RECORDS + 1, record);
+            compare_read(&damaged, most, most + 1, record);
         }
     }
 }
@@ -135,16 +85,10 @@ pub fn damaged(kind: Kind, random: &mut Random, record: &mut Record) {
 /// Cut at every length, and lengthened by up to three records.
 pub fn cut_and_lengthened(random: &mut Random, record: &mut Record) {
     for &kind in KINDS {
-        for width in [
-            LEAST_FILE_WIDTH,
-            5,
-            16,
-            MOST_FILE_WIDTH - 1,
-            MOST_FILE_WIDTH,
-        ] {
+        for width in all_end_widths() {
             for count in [0, 1, 2, 7] {
                 let file = blocks::good(random, kind, width, 0, count).bytes();
-                for length in 0..file.len() + 16 {
+                for length in 0..file.len() + 22 {
                     let mut other = file.clone();
                     other.resize(length, 0);
                     compare_read(&other, count + 4, count + 4, record);
@@ -156,8 +100,8 @@ pub fn cut_and_lengthened(random: &mut Random, record: &mut Record) {
 }
 
 pub fn at_the_limits(random: &mut Random, record: &mut Record) {
-    for _ in 0..6 {
-        for file in bad_blocks::at_the_limits(random) {
+    for _ in 0..4 {
+        for file in limit_blocks::at_the_limits(random) {
             let count = records_in(&file);
             for (numbers_room, rounds_room) in rooms_near(count) {
                 compare_read(&file, numbers_room, rounds_room, record);
@@ -166,9 +110,10 @@ pub fn at_the_limits(random: &mut Random, record: &mut Record) {
     }
 }
 
-/// As many records as the length has room for.
+/// As many records as the length has room for in the version that the file says.
 fn records_in(file: &[u8]) -> usize {
-    file.len().saturating_sub(HEAD_BYTES) / LAYOUT.record_bytes
+    let layout = version_of(file).map_or(FIRST_LAYOUT, |version| LAYOUTS[version]);
+    file.len().saturating_sub(HEAD_BYTES) / layout.record_bytes()
 }
 
 fn rooms_near(count: usize) -> [(usize, usize); 5] {

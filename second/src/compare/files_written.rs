@@ -1,107 +1,12 @@
-//! Block files written by both programs, with every byte of the buffers.
+//! Blocks of every width, written by both programs as block files.
 
-use super::blocks::{self, Block, RANDOM_FILES};
-use super::fall;
-use super::lent::Lent;
-use super::library::*;
+use super::blocks::{self, RANDOM_FILES};
+use super::file_write_case::{compare_write, ToWrite};
 use super::limits::*;
-use super::operations::FILE_WRITE;
 use super::random::Random;
 use super::tally::Record;
-use crate::model::block_file;
 use crate::model::kinds::KINDS;
-use crate::model::layout::FileNumber;
-
-#[derive(Clone, Debug)]
-struct ToWrite {
-    kind: u32,
-    width: u32,
-    unit: i32,
-    numbers: Vec<FileNumber>,
-    rounds: Vec<u8>,
-}
-
-impl ToWrite {
-    fn of(block: Block) -> ToWrite {
-        ToWrite {
-            kind: block.kind as u32,
-            width: block.width as u32,
-            unit: block.unit as i32,
-            numbers: block.records.iter().map(|record| record.0).collect(),
-            rounds: block.records.iter().map(|record| record.1).collect(),
-        }
-    }
-
-    fn file_length(&self) -> usize {
-        LAYOUT.file_bytes(self.numbers.len())
-    }
-
-    fn block(&self) -> block_file::Block<'_> {
-        block_file::Block {
-            kind: self.kind as i128,
-            width: self.width as i128,
-            unit: self.unit as i128,
-            numbers: &self.numbers,
-            rounds: &self.rounds,
-        }
-    }
-
-    fn text(&self) -> String {
-        let shown_numbers = &self.numbers[..self.numbers.len().min(12)];
-        let shown_rounds = &self.rounds[..self.rounds.len().min(12)];
-        format!(
-            "kind {}, width {}, unit {}, {} numbers {:?}, {} round bits {:?}",
-            self.kind,
-            self.width,
-            self.unit,
-            self.numbers.len(),
-            shown_numbers,
-            self.rounds.len(),
-            shown_rounds
-        )
-    }
-}
-
-fn compare_write(input: &ToWrite, room: usize, record: &mut Record) {
-    let salt = record.cases;
-    let mut numbers = Lent::holding_numbers(&input.numbers, salt);
-    let mut rounds = Lent::holding_bytes(&input.rounds, salt);
-    let before = (numbers.clone(), rounds.clone());
-    let mut out = Lent::bytes(room, salt);
-    let mut second_out = out.clone();
-    fall::about_to_call("frost_file_write", None, &input.rounds);
-    let answer = unsafe {
-        frost_file_write(
-            input.kind,
-            input.width,
-            input.unit,
-            numbers.pointer(),
-            numbers.room(),
-            rounds.pointer(),
-            rounds.room(),
-            out.pointer(),
-            room,
-        )
-    };
-    fall::back();
-    let library = answer.model();
-    let second = block_file::write(LAYOUT, input.block(), second_out.lend());
-    record.answer(FILE_WRITE, library.refusal);
-    let buffers = out == second_out && (&numbers, &rounds) == (&before.0, &before.1);
-    record.check(library == second && buffers, || {
-        format!(
-            "frost_file_write\n  case:    {}, room {}\n  library: {:?}\n  second:  {:?}\n  \
-             first that differs (library, second): byte written {}; number {}; round bit {}",
-            input.text(),
-            room,
-            library,
-            second,
-            out.first_difference(&second_out),
-            numbers.first_difference(&before.0),
-            rounds.first_difference(&before.1)
-        )
-    });
-}
+use crate::model::layout::{FileNumber, LAYOUTS};
 
 fn write_into_all_rooms(input: &ToWrite, record: &mut Record) {
     let needed = input.file_length();
@@ -133,19 +38,15 @@ fn any_kinds() -> Vec<u32> {
     kinds
 }
 
-const ANY_WIDTHS: [u32; 11] = [
-    0,
-    LEAST_FILE_WIDTH as u32 - 1,
-    LEAST_FILE_WIDTH as u32,
-    5,
-    MOST_FILE_WIDTH as u32 - 1,
-    MOST_FILE_WIDTH as u32,
-    MOST_FILE_WIDTH as u32 + 1,
-    MOST_WIDTH,
-    256 + LEAST_FILE_WIDTH as u32,
-    256 + MOST_FILE_WIDTH as u32,
-    u32::MAX,
-];
+/// The ends of each version's widths too; some of the others look like these.
+fn any_widths() -> Vec<u32> {
+    let mut widths = vec![0, LEAST_FILE_WIDTH as u32 - 1, MOST_FILE_WIDTH as u32 + 1];
+    widths.extend([MOST_WIDTH, MOST_WIDTH + 1, u32::MAX]);
+    widths.extend([256, 1 << 31].map(|high| high + LEAST_FILE_WIDTH as u32));
+    widths.extend([256, 1 << 16].map(|high| high + MOST_FILE_WIDTH as u32));
+    widths.extend(all_end_widths().iter().map(|&width| width as u32));
+    widths
+}
 
 const ANY_UNITS: [i32; 10] = [
     i32::MIN,
@@ -163,9 +64,9 @@ const ANY_UNITS: [i32; 10] = [
 /// Every kind, width and unit with good and bad records and lengths.
 pub fn several_causes(random: &mut Random, record: &mut Record) {
     for kind in any_kinds() {
-        for width in ANY_WIDTHS {
+        for width in any_widths() {
             for unit in ANY_UNITS {
-                for spoil in 0..9 {
+                for spoil in 0..11 {
                     let input = spoiled(random, kind, width, unit, spoil);
                     let needed = input.file_length();
                     for room in [needed + 4, needed, needed - 1, 0] {
@@ -189,11 +90,7 @@ fn spoiled(random: &mut Random, kind: u32, width: u32, unit: i32, spoil: u32) ->
         unit,
         ..ToWrite::of(block)
     };
-    let past = if (good_width as u32) < FileNumber::BITS {
-        1 << (good_width - 1)
-    } else {
-        FileNumber::MAX
-    };
+    let past: FileNumber = 1 << (good_width - 1);
     match spoil {
         0 => {}
         1 => input.rounds.push(0),
@@ -201,42 +98,50 @@ fn spoiled(random: &mut Random, kind: u32, width: u32, unit: i32, spoil: u32) ->
         3 => input.numbers.clear(),
         4 => input.rounds.clear(),
         5 => input.numbers[2] = past,
-        6 => input.numbers[0] = (-past).wrapping_sub(1),
+        6 => input.numbers[0] = -past - 1,
         7 => input.rounds[2] = 1,
-        _ => input.rounds[1] = random.one_of(&[2, 128, 255]),
+        8 => input.rounds[1] = random.one_of(&[2, 128, 255]),
+        9 => input.numbers[1] = random.one_of(&[FileNumber::MIN, FileNumber::MAX]),
+        // The same digits below, and one above all that any file has.
+        _ => input.numbers[1] ^= 1 << random.one_of(&[48, 56, 62, 63]),
     }
     input
 }
 
 pub fn at_the_limits(random: &mut Random, record: &mut Record) {
-    let most = MOST_RECORDS;
     for kind in 0..=NO_KIND {
-        let good_kind = row_of_kind(kind.min(LAST_KIND));
-        for count in [0, 1, most - 1, most, most + 1, most + 2] {
-            for width in [1, MOST_FILE_WIDTH, MOST_FILE_WIDTH + 1, 9] {
-                let good_width = width.clamp(LEAST_FILE_WIDTH, MOST_FILE_WIDTH);
-                let block = blocks::good(random, good_kind, good_width, MOST_UNIT as i8, count);
-                let input = ToWrite {
-                    kind: kind as u32,
-                    width: width as u32,
-                    ..ToWrite::of(block)
-                };
-                write_into_all_rooms(&input, record);
-                write_into_all_rooms(
-                    &ToWrite {
-                        unit: MOST_UNIT + 1,
-                        ..input.clone()
-                    },
-                    record,
-                );
-                write_unlike_lengths(&input, record);
+        for &layout in LAYOUTS {
+            let most = layout.most_records;
+            let [least, _, _, greatest] = end_widths(layout);
+            for count in [0, 1, most - 1, most, most + 1, most + 2] {
+                for width in [least - 1, least, greatest, greatest + 1] {
+                    limit(random, kind, width, count, record);
+                }
             }
         }
     }
 }
 
+fn limit(random: &mut Random, kind: u8, width: u8, count: usize, record: &mut Record) {
+    let good_kind = row_of_kind(kind.min(LAST_KIND));
+    let good_width = width.clamp(LEAST_FILE_WIDTH, MOST_FILE_WIDTH);
+    let block = blocks::good(random, good_kind, good_width, MOST_UNIT as i8, count);
+    let input = ToWrite {
+        kind: kind as u32,
+        width: width as u32,
+        ..ToWrite::of(block)
+    };
+    write_into_all_rooms(&input, record);
+    let bad_unit = ToWrite {
+        unit: MOST_UNIT + 1,
+        ..input.clone()
+    };
+    write_into_all_rooms(&bad_unit, record);
+    write_unlike_lengths(&input, record);
+}
+
 /// More than any file needs.
-const MUCH_ROOM: usize = 60_000;
+const MUCH_ROOM: usize = LONGEST_FILE + 4_000;
 
 fn write_unlike_lengths(input: &ToWrite, record: &mut Record) {
     let count = input.numbers.len();
@@ -253,24 +158,32 @@ fn write_unlike_lengths(input: &ToWrite, record: &mut Record) {
 
 pub fn random(random: &mut Random, record: &mut Record) {
     for _ in 0..RANDOM_FILES {
-        let mut input = ToWrite::of(blocks::any_good(random, 12));
-        if random.once_in(2) {
-            spoil(random, &mut input);
-        }
+        let input = any_to_write(random);
         let room = random.room(input.file_length() as u64);
         compare_write(&input, room, record);
     }
 }
 
+/// Half of them have something wrong.
+pub fn any_to_write(random: &mut Random) -> ToWrite {
+    let mut input = ToWrite::of(blocks::any_good(random, 12));
+    if random.once_in(2) {
+        spoil(random, &mut input);
+    }
+    input
+}
+
 fn spoil(random: &mut Random, input: &mut ToWrite) {
     let count = input.numbers.len() as u64;
     let place = random.below(count.max(1)) as usize;
-    match random.below(6) {
+    match random.below(7) {
         0 => input.kind = random.one_of(&any_kinds()),
-        1 => input.width = random.one_of(&ANY_WIDTHS),
+        1 => input.width = random.one_of(&any_widths()),
         2 => input.unit = random.one_of(&ANY_UNITS),
-        3 if count > 0 => input.numbers[place] = random.next() as FileNumber,
-        4 if count > 0 => input.rounds[place] = random.next() as u8,
+        // Of every size that 64 digits have.
+        3 if count > 0 => input.numbers[place] = random.next() as FileNumber >> random.below(64),
+        4 if count > 0 => input.numbers[place] ^= 1 << random.below(64),
+        5 if count > 0 => input.rounds[place] = random.next() as u8,
         _ => input.rounds.resize(random.below(14) as usize, 0),
     }
 }

@@ -42,7 +42,7 @@ extern "C" {
     pub fn frost_file_read(
         file: *const u8,
         length: usize,
-        numbers: *mut i32,
+        numbers: *mut i64,
         numbers_room: usize,
         rounds: *mut u8,
         rounds_room: usize,
@@ -51,7 +51,7 @@ extern "C" {
         kind: u32,
         width: u32,
         unit: i32,
-        numbers: *const i32,
+        numbers: *const i64,
         numbers_length: usize,
         rounds: *const u8,
         rounds_length: usize,
@@ -62,7 +62,7 @@ extern "C" {
     pub fn frost_reading_of_run(
         kind: u32,
         width: u32,
-        numbers: *const i32,
+        numbers: *const i64,
         numbers_length: usize,
         rounds: *const u8,
         rounds_length: usize,

@@ -7,7 +7,6 @@ use super::case::Operand;
 use super::fall;
 use super::job::Job;
 use super::library::*;
-use super::limits::LAYOUT;
 use super::operations::{FILE_READ, FILE_WRITE, LISTING_CALL, TEXT_READ, TEXT_WRITE};
 use super::reading_case::{self, ReadingCase};
 use super::tally::Record;
@@ -87,12 +86,18 @@ fn same<A: Debug + PartialEq>(
 fn all(huge: &mut Huge, record: &mut Record) {
     text_length(huge, record);
     text_room(huge, record);
-    file_length(huge, record);
-    file_rooms(huge, record);
-    unlike_lengths(huge, record);
-    written_room(huge, record);
-    listed_length(huge, record);
-    listed_room(huge, record);
+    for file in EMPTY_FILES {
+        file_length(huge, file, record);
+        listed_length(huge, file, record);
+    }
+    for file in TWO_RECORDS {
+        file_rooms(huge, file, record);
+        listed_room(huge, file, record);
+    }
+    for width in [5, 40] {
+        unlike_lengths(huge, width, record);
+        written_room(huge, width, record);
+    }
     read_lengths(huge, record);
     // The bytes past the head, looked at once for all calls.
     let changed = huge.slice(SIZE)[HEAD..].iter().position(|byte| *byte != 0);
@@ -140,13 +145,18 @@ fn text_room(huge: &mut Huge, record: &mut Record) {
     );
 }
 
-/// A good file of width 5, with no record or with two.
-const EMPTY_FILE: &[u8] = b"RNB\x01\x00\x01\x05\x00\x00\x00\x00\x00";
-const TWO_RECORDS: &[u8] =
-    b"RNB\x01\x00\x01\x05\x00\x02\x00\x00\x00\x07\0\0\0\x01\xFF\xFF\xFF\xFF\0";
+/// A good file of each version, of width 5 and 40, with no record and with two.
+const EMPTY_FILES: [&[u8]; 2] = [
+    b"RNB\x01\x00\x01\x05\x00\x00\x00\x00\x00",
+    b"RNB\x02\x00\x01\x28\x00\x00\x00\x00\x00",
+];
+const TWO_RECORDS: [&[u8]; 2] = [
+    b"RNB\x01\x00\x01\x05\x00\x02\x00\x00\x00\x07\0\0\0\x01\xFF\xFF\xFF\xFF\0",
+    b"RNB\x02\x00\x01\x28\x00\x02\x00\x00\x00\x07\0\0\0\x7F\0\x01\xFF\xFF\xFF\xFF\xFF\xFF\0",
+];
 
-fn file_length(huge: &mut Huge, record: &mut Record) {
-    huge.hold(EMPTY_FILE);
+fn file_length(huge: &mut Huge, file: &[u8], record: &mut Record) {
+    huge.hold(file);
     let mut numbers = [9; 4];
     let mut rounds = [9; 4];
     let answer = unsafe {
@@ -155,7 +165,7 @@ fn file_length(huge: &mut Huge, record: &mut Record) {
     };
     record.answer(FILE_READ, answer.refusal);
     let after = huge.head();
-    huge.hold(EMPTY_FILE);
+    huge.hold(file);
     let second = block_file::read(huge.slice(PAST + HEAD_BYTES), &mut [9; 4], &mut [9; 4]);
     let library = (answer.model(), numbers, rounds);
     let second = (second, [9; 4], [9; 4]);
@@ -167,25 +177,18 @@ fn file_length(huge: &mut Huge, record: &mut Record) {
     );
 }
 
-fn file_rooms(huge: &mut Huge, record: &mut Record) {
+fn file_rooms(huge: &mut Huge, file: &[u8], record: &mut Record) {
     huge.hold(b"some bytes");
     let mut numbers = [9; 4];
     let answer = unsafe {
         let n = numbers.as_mut_ptr();
-        frost_file_read(
-            TWO_RECORDS.as_ptr(),
-            TWO_RECORDS.len(),
-            n,
-            4,
-            huge.memory,
-            PAST + 1,
-        )
+        frost_file_read(file.as_ptr(), file.len(), n, 4, huge.memory, PAST + 1)
     };
     record.answer(FILE_READ, answer.refusal);
     let after = huge.head();
     huge.hold(b"some bytes");
     let mut second_numbers = [9; 4];
-    let second = block_file::read(TWO_RECORDS, &mut second_numbers, huge.slice(PAST + 1));
+    let second = block_file::read(file, &mut second_numbers, huge.slice(PAST + 1));
     let library = (answer.model(), numbers);
     let second = (second, second_numbers);
     same(
@@ -196,11 +199,11 @@ fn file_rooms(huge: &mut Huge, record: &mut Record) {
     );
 }
 
-/// What the calls below write: round-bit words of width 5 and unit 0.
-fn block<'a>(numbers: &'a [FileNumber], rounds: &'a [u8]) -> Block<'a> {
+/// What the calls below write: round-bit words of a width and unit 0.
+fn block<'a>(width: u32, numbers: &'a [FileNumber], rounds: &'a [u8]) -> Block<'a> {
     Block {
         kind: ROUND_BIT.byte,
-        width: 5,
+        width: width as i128,
         unit: 0,
         numbers,
         rounds,
@@ -208,11 +211,12 @@ fn block<'a>(numbers: &'a [FileNumber], rounds: &'a [u8]) -> Block<'a> {
 }
 
 fn write(
+    width: u32,
     numbers: &[FileNumber],
     rounds: (*const u8, usize),
     out: (*mut u8, usize),
 ) -> FrostWritten {
-    let block = block(numbers, &[]);
+    let block = block(width, numbers, &[]);
     unsafe {
         frost_file_write(
             block.kind as u32,
@@ -228,15 +232,15 @@ fn write(
     }
 }
 
-fn unlike_lengths(huge: &mut Huge, record: &mut Record) {
+fn unlike_lengths(huge: &mut Huge, width: u32, record: &mut Record) {
     huge.hold(&[1]);
     let mut out = [9; 64];
-    let library = write(&[5], (huge.memory, PAST + 1), (out.as_mut_ptr(), 64)).model();
+    let library = write(width, &[5], (huge.memory, PAST + 1), (out.as_mut_ptr(), 64)).model();
     record.answer(FILE_WRITE, library.refusal);
     let after = huge.head();
     huge.hold(&[1]);
     let mut second_out = [9; 64];
-    let second = block_file::write(LAYOUT, block(&[5], huge.slice(PAST + 1)), &mut second_out);
+    let second = block_file::write(block(width, &[5], huge.slice(PAST + 1)), &mut second_out);
     let library = ((library, out), after);
     let second = ((second, second_out), huge.head());
     same(
@@ -247,13 +251,13 @@ fn unlike_lengths(huge: &mut Huge, record: &mut Record) {
     );
 }
 
-fn written_room(huge: &mut Huge, record: &mut Record) {
+fn written_room(huge: &mut Huge, width: u32, record: &mut Record) {
     huge.hold(b"some bytes");
-    let library = write(&[5], ([1].as_ptr(), 1), (huge.memory, PAST + 3)).model();
+    let library = write(width, &[5], ([1].as_ptr(), 1), (huge.memory, PAST + 3)).model();
     record.answer(FILE_WRITE, library.refusal);
     let after = huge.head();
     huge.hold(b"some bytes");
-    let second = block_file::write(LAYOUT, block(&[5], &[1]), huge.slice(PAST + 3));
+    let second = block_file::write(block(width, &[5], &[1]), huge.slice(PAST + 3));
     same(
         "frost_file_write, room 2^32 + 3",
         (library, after),
@@ -262,15 +266,15 @@ fn written_room(huge: &mut Huge, record: &mut Record) {
     );
 }
 
-fn listed_length(huge: &mut Huge, record: &mut Record) {
-    huge.hold(EMPTY_FILE);
+fn listed_length(huge: &mut Huge, file: &[u8], record: &mut Record) {
+    huge.hold(file);
     let mut out = [9; 64];
     let answer =
         unsafe { frost_listing_text(huge.memory, PAST + HEAD_BYTES, out.as_mut_ptr(), 64) };
     let library = answer.model();
     record.answer(LISTING_CALL, library.refusal);
     let after = huge.head();
-    huge.hold(EMPTY_FILE);
+    huge.hold(file);
     let mut second_out = [9; 64];
     let second = listing::write(huge.slice(PAST + HEAD_BYTES), &mut second_out);
     let library = ((library, out), after);
@@ -283,15 +287,14 @@ fn listed_length(huge: &mut Huge, record: &mut Record) {
     );
 }
 
-fn listed_room(huge: &mut Huge, record: &mut Record) {
+fn listed_room(huge: &mut Huge, file: &[u8], record: &mut Record) {
     huge.hold(b"some bytes");
-    let file = (TWO_RECORDS.as_ptr(), TWO_RECORDS.len());
-    let answer = unsafe { frost_listing_text(file.0, file.1, huge.memory, PAST + 4) };
+    let answer = unsafe { frost_listing_text(file.as_ptr(), file.len(), huge.memory, PAST + 4) };
     let library = answer.model();
     record.answer(LISTING_CALL, library.refusal);
     let after = huge.head();
     huge.hold(b"some bytes");
-    let second = listing::write(TWO_RECORDS, huge.slice(PAST + 4));
+    let second = listing::write(file, huge.slice(PAST + 4));
     same(
         "frost_listing_text, room 2^32 + 4",
         (library, after),
@@ -303,7 +306,7 @@ fn listed_room(huge: &mut Huge, record: &mut Record) {
 /// The call tells by itself what it fell on; so it comes last.
 fn read_lengths(huge: &mut Huge, record: &mut Record) {
     huge.hold(&[1]);
-    let block = block(&[5], huge.slice(PAST + 1));
+    let block = block(5, &[5], huge.slice(PAST + 1));
     let case = ReadingCase {
         kind: block.kind as u32,
         width: block.width as u32,

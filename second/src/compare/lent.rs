@@ -12,10 +12,11 @@ pub struct Lent<T> {
 }
 
 /// A pattern that depends on the place and on a salt: a stray write that
-/// happens to agree with the pattern in one case differs in the next.
+/// happens to agree with the pattern in one case differs in the next. All its
+/// bytes do, so that a write of some bytes of a number is seen as well.
 fn pattern(place: usize, salt: u64) -> u64 {
     let mixed = (place as u64 + 1).wrapping_mul(0x9E37_79B9_7F4A_7C15) ^ salt;
-    mixed.wrapping_mul(0xD6E8_FEB8_6659_FD93) >> 24
+    mixed.wrapping_mul(0xD6E8_FEB8_6659_FD93).rotate_right(24)
 }
 
 impl Lent<u8> {

@@ -2,7 +2,7 @@
 //! cases have; cases at an edge are told from here.
 
 use crate::model::kinds::{kind_of, Kind, KINDS};
-use crate::model::layout::{Layout, LAYOUTS, VERSION_1};
+use crate::model::layout::{layout_for, Layout, LAYOUTS};
 use crate::model::{reading, words};
 
 pub const LEAST_WIDTH: u32 = words::LEAST_WIDTH as u32;
@@ -20,13 +20,14 @@ pub const MIDDLE_WIDTH: u32 = (MOST_WIDTH + 1) / 2;
 /// Two words of this unit pass the ends by one.
 pub const MIDDLE_UNIT: i32 = (MOST_UNIT + 1) / 2;
 
-/// The files that are compared: the library's calls name no version.
-pub const LAYOUT: Layout = VERSION_1;
-pub const LEAST_FILE_WIDTH: u8 = LAYOUT.least_width as u8;
-pub const MOST_FILE_WIDTH: u8 = LAYOUT.most_width as u8;
-pub const FILE_WIDTHS: u64 = (MOST_FILE_WIDTH - LEAST_FILE_WIDTH + 1) as u64;
-pub const MOST_RECORDS: usize = LAYOUT.most_records;
-pub const LONGEST_FILE: usize = LAYOUT.longest_file;
+/// The versions of a file. Their widths follow on each other, and the last has
+/// the longest file.
+pub const FIRST_LAYOUT: Layout = LAYOUTS[0];
+pub const LAST_LAYOUT: Layout = LAYOUTS[LAYOUTS.len() - 1];
+pub const LEAST_FILE_WIDTH: u8 = FIRST_LAYOUT.least_width as u8;
+pub const MOST_FILE_WIDTH: u8 = LAST_LAYOUT.most_width as u8;
+pub const MOST_RECORDS: usize = LAST_LAYOUT.most_records;
+pub const LONGEST_FILE: usize = LAST_LAYOUT.longest_file();
 
 /// Readings have widths of their own.
 pub const MOST_READING_WIDTH: u32 = reading::MOST_WIDTH as u32;
@@ -34,6 +35,28 @@ pub const READING_WIDTHS: u64 = (MOST_READING_WIDTH - LEAST_WIDTH + 1) as u64;
 
 /// The version after the last, which is none, in its lower byte.
 pub const NO_VERSION: u8 = LAYOUTS.len() as u8 + 1;
+
+/// The layout of a width that a case has chosen.
+pub fn layout_of_width(width: u8) -> Layout {
+    layout_for(width as i128).expect("a width of a file")
+}
+
+/// The ends of a version's widths, and the widths beside them.
+pub fn end_widths(layout: Layout) -> [u8; 4] {
+    let (least, most) = (layout.least_width as u8, layout.most_width as u8);
+    [least, least + 1, most - 1, most]
+}
+
+/// Those of every version.
+pub fn all_end_widths() -> Vec<u8> {
+    LAYOUTS.iter().copied().flat_map(end_widths).collect()
+}
+
+/// The other versions.
+pub fn others(layout: Layout) -> impl Iterator<Item = Layout> {
+    let is_other = move |other: &Layout| other.version != layout.version;
+    LAYOUTS.iter().copied().filter(is_other)
+}
 
 /// The byte after the last kind's, which is no kind's.
 pub const NO_KIND: u8 = KINDS.len() as u8;

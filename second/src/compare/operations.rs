@@ -1,10 +1,12 @@
 //! Every operation once: how it is called in the library and in the second
-//! program, and the causes it can refuse by.
+//! program, and the causes it can refuse by; then the rows of the tally.
 
 use super::case::{Case, Reply, Takes, ROUND_BIT_WORD};
 use super::library::*;
+use super::refusals::*;
 use super::tally::Row;
-use crate::model::causes::*;
+use crate::model::causes::BUFFER_TOO_SHORT;
+use crate::model::layout::LAYOUTS;
 use crate::model::{half_unit, round_bit, running_sum};
 
 /// An operation on words.
@@ -36,52 +38,6 @@ const FORMAT_DEPTH: Takes = Takes {
     number: false,
     ..takes(false, true, false)
 };
-
-/// Why a number can occur: a word as operand gives 1, 2, 3; a sum 4 and 8; a
-/// cut 5 and 7; a wider answer 6 and 7; a lent buffer 10. Widening and the
-/// products always fit, so they have no 8, and the cuts get no wider, so no 6.
-/// The bank's widths are set, so it has no 5 and no 6, and its total always
-/// fits, so no 8.
-macro_rules! and_of_words {
-    ($($cause:ident),*) => {
-        &[WIDTH_OUTSIDE, UNIT_OUTSIDE, NUMBER_OUTSIDE $(, $cause)*]
-    };
-}
-
-const OF_WORDS: &[u32] = and_of_words![];
-const OF_SUM: &[u32] = and_of_words![OPERANDS_DIFFER, ANSWER_DOES_NOT_FIT];
-const OF_CUT: &[u32] = and_of_words![DEPTH_OUTSIDE, ANSWER_UNIT_OUTSIDE];
-const OF_WIDER: &[u32] = and_of_words![ANSWER_TOO_WIDE, ANSWER_UNIT_OUTSIDE];
-const OF_FIT: &[u32] = and_of_words![ANSWER_DOES_NOT_FIT];
-#[rustfmt::skip]
-const OF_PUT: &[u32] =
-    and_of_words![OPERANDS_DIFFER, DEPTH_OUTSIDE, ANSWER_UNIT_OUTSIDE, ANSWER_DOES_NOT_FIT];
-/// Opening takes a width, a unit and a depth, and no number: no 3.
-#[rustfmt::skip]
-const OF_OPENING: &[u32] =
-    &[WIDTH_OUTSIDE, UNIT_OUTSIDE, DEPTH_OUTSIDE, ANSWER_UNIT_OUTSIDE];
-const OF_BANK: &[u32] = and_of_words![OPERANDS_DIFFER, ANSWER_UNIT_OUTSIDE, CHANNEL_OUTSIDE];
-const OF_TEXT: &[u32] = and_of_words![BUFFER_TOO_SHORT];
-/// A text has a width (its length) and a unit, but no number of its own; its
-/// bytes give 13 and 9.
-const OF_TEXT_READ: &[u32] = &[WIDTH_OUTSIDE, UNIT_OUTSIDE, BYTE_WRONG, SIGN_REPEATED];
-#[rustfmt::skip]
-const OF_FILE_READ: &[u32] =
-    and_of_words![BUFFER_TOO_SHORT, MARK_OR_VERSION_WRONG, LENGTH_KIND_OR_COUNT_WRONG];
-/// A writer puts the mark and version itself: no 11.
-const OF_FILE: &[u32] = and_of_words![BUFFER_TOO_SHORT, LENGTH_KIND_OR_COUNT_WRONG];
-/// A reading takes no unit, so no 2, and no buffer to be written, so no 10.
-#[rustfmt::skip]
-const OF_READING: &[u32] =
-    &[WIDTH_OUTSIDE, NUMBER_OUTSIDE, LENGTH_KIND_OR_COUNT_WRONG, RUN_WRONG];
-/// An import takes bits in place of a number, so no 3, and is asked for its width
-/// and unit, so no 6 and no 7.
-#[rustfmt::skip]
-const OF_IMPORT: &[u32] = &[WIDTH_OUTSIDE, UNIT_OUTSIDE, ANSWER_DOES_NOT_FIT, NOT_FINITE];
-/// The line `refused N` within the text, 0 for a listing: never 10, since the
-/// listing lends its own buffers.
-#[rustfmt::skip]
-const OF_PRINTED: &[u32] = and_of_words![MARK_OR_VERSION_WRONG, LENGTH_KIND_OR_COUNT_WRONG];
 
 /// One row: what it takes, its function in each program, why it refuses.
 macro_rules! row {
@@ -180,20 +136,29 @@ pub const EMPTY: usize = row_of("frost_running_sum_empty");
 
 /// The operations that are called elsewhere, the bank, those with lent buffers
 /// and the imports, and what is printed; their rows stand after those of the words.
+/// A file counts in a row of its version as well, whatever else is wrong with it.
 #[rustfmt::skip]
 const ELSEWHERE: &[Row] = &[
     Row { name: "frost_bank_output", refuses: OF_BANK },
     Row { name: "frost_digit_text_write", refuses: OF_TEXT },
     Row { name: "frost_digit_text_read", refuses: OF_TEXT_READ },
     Row { name: "frost_file_read", refuses: OF_FILE_READ },
+    Row { name: "frost_file_read, version 1", refuses: OF_FILE_READ },
+    Row { name: "frost_file_read, version 2", refuses: OF_FILE_READ },
     Row { name: "frost_file_write", refuses: OF_FILE },
+    Row { name: "frost_file_write, widths of version 1", refuses: OF_FILE_OF_A_WIDTH },
+    Row { name: "frost_file_write, widths of version 2", refuses: OF_FILE_OF_A_WIDTH },
     Row { name: "frost_reading_of_run", refuses: OF_READING },
     Row { name: "frost_plain_from_binary64", refuses: OF_IMPORT },
     Row { name: "frost_round_bit_from_binary64", refuses: OF_IMPORT },
     Row { name: "frost_half_unit_from_binary64", refuses: OF_IMPORT },
     Row { name: "frost_listing_text", refuses: &[BUFFER_TOO_SHORT] },
     Row { name: "frost_listing_text, printed", refuses: OF_PRINTED },
+    Row { name: "frost_listing_text, printed, version 1", refuses: OF_PRINTED },
+    Row { name: "frost_listing_text, printed, version 2", refuses: OF_PRINTED },
     Row { name: "listing program, printed", refuses: OF_PRINTED },
+    Row { name: "listing program, printed, version 1", refuses: OF_PRINTED },
+    Row { name: "listing program, printed, version 2", refuses: OF_PRINTED },
 ];
 
 pub const BANK_OUTPUT: usize = row_of("frost_bank_output");
@@ -208,6 +173,26 @@ pub const HALF_UNIT_IMPORT: usize = row_of("frost_half_unit_from_binary64");
 pub const LISTING_CALL: usize = row_of("frost_listing_text");
 pub const LISTING_PRINTED: usize = row_of("frost_listing_text, printed");
 pub const PROGRAM_PRINTED: usize = row_of("listing program, printed");
+
+/// Rows by the place of the version among the layouts; a version without its
+/// rows does not compile.
+type ByVersion = [usize; LAYOUTS.len()];
+pub const FILE_READ_OF: ByVersion = [
+    row_of("frost_file_read, version 1"),
+    row_of("frost_file_read, version 2"),
+];
+pub const FILE_WRITE_OF: ByVersion = [
+    row_of("frost_file_write, widths of version 1"),
+    row_of("frost_file_write, widths of version 2"),
+];
+pub const LISTING_PRINTED_OF: ByVersion = [
+    row_of("frost_listing_text, printed, version 1"),
+    row_of("frost_listing_text, printed, version 2"),
+];
+pub const PROGRAM_PRINTED_OF: ByVersion = [
+    row_of("listing program, printed, version 1"),
+    row_of("listing program, printed, version 2"),
+];
 
 /// The tally's rows.
 pub fn rows() -> Vec<Row> {

@@ -24,10 +24,11 @@ const ROUND: u32 = 64;
 const OUTSIDE: u32 = 128;
 const ALL_CAUSES: u32 = 256;
 
-const BAD_WIDTHS: [u32; 9] = [
+const BAD_WIDTHS: [u32; 10] = [
     0,
     LEAST_WIDTH - 1,
     MOST_READING_WIDTH + 1,
+    FIRST_LAYOUT.most_width as u32,
     MOST_FILE_WIDTH as u32,
     MOST_WIDTH,
     MOST_WIDTH + 1,

@@ -78,14 +78,18 @@ pub fn any_run(random: &mut Random, count: usize) -> (usize, usize) {
 }
 
 /// Numbers just outside the width and far outside it. A program that drops high
-/// digits takes the middle two for 0 and the last two for 0 and -1.
-pub fn bad_numbers(kind: Kind, width: u32) -> [FileNumber; 6] {
+/// digits takes all but the first two for 0 or -1, those after the first four if
+/// it keeps 32 digits.
+pub fn bad_numbers(kind: Kind, width: u32) -> [FileNumber; 9] {
     let width = width as i128;
     [
         power(width - 1) as FileNumber,
         ((kind.least)(width) - 1) as FileNumber,
         power(width) as FileNumber,
         -power(width) as FileNumber,
+        power(32) as FileNumber,
+        -power(32) as FileNumber,
+        power(32) as FileNumber - 1,
         FileNumber::MIN,
         FileNumber::MAX,
     ]

@@ -12,7 +12,7 @@ use crate::model::layout::FileNumber;
 
 /// Widths that are one and that are none, of a reading, a file or any word; some
 /// are good ones to a program that drops digits.
-const ANY_WIDTHS: [u32; 18] = [
+const ANY_WIDTHS: [u32; 20] = [
     0,
     LEAST_WIDTH - 1,
     LEAST_WIDTH,
@@ -22,6 +22,8 @@ const ANY_WIDTHS: [u32; 18] = [
     MOST_READING_WIDTH,
     MOST_READING_WIDTH + 1,
     MOST_READING_WIDTH + 2,
+    FIRST_LAYOUT.most_width as u32,
+    FIRST_LAYOUT.most_width as u32 + 1,
     MOST_FILE_WIDTH as u32,
     MOST_FILE_WIDTH as u32 + 1,
     MOST_WIDTH,

@@ -4,9 +4,9 @@ use super::job::Job;
 use super::random::Random;
 use super::tally::Record;
 use super::{
-    reading_causes as causes, reading_random as random_blocks, reading_refusals as refusals,
-    reading_runs as runs, reading_sheet as sheet, reading_sheet_refused as sheet_refused,
-    reading_small as small, reading_values as values,
+    reading_causes as causes, reading_far as far, reading_random as random_blocks,
+    reading_refusals as refusals, reading_runs as runs, reading_sheet as sheet,
+    reading_sheet_refused as sheet_refused, reading_small as small, reading_values as values,
 };
 
 type Run = fn(&mut Random, &mut Record);
@@ -37,6 +37,8 @@ const PARTS: &[(&str, Run)] = &[
     ("readings, unlike lengths", refusals::unlike_lengths),
     ("readings, runs of every size", refusals::runs),
     ("readings, one bad record", refusals::bad_record),
+    ("readings, digits above a good number", far::digits_above),
+    ("readings, numbers of every size", far::every_size),
     ("readings, several causes at once", causes::several_causes),
     ("readings, two adjoining runs", runs::adjoining),
     ("readings, records outside the run", runs::outside),
