@@ -20,12 +20,12 @@
     frost_half_unit_answer JOIN(who, half_unit_from_binary64)(uint64_t bits, uint32_t width, int32_t unit);           \
     frost_written JOIN(who, digit_text_write)(frost_round_bit w, uint8_t *text, size_t room);                         \
     frost_text_answer JOIN(who, digit_text_read)(const uint8_t *text, size_t length, int32_t unit);                   \
-    frost_file_head JOIN(who, file_read)(const uint8_t *file, size_t length, int32_t *numbers, size_t numbers_room,   \
+    frost_file_head JOIN(who, file_read)(const uint8_t *file, size_t length, int64_t *numbers, size_t numbers_room,   \
                                          uint8_t *rounds, size_t rounds_room);                                        \
-    frost_written JOIN(who, file_write)(uint32_t kind, uint32_t width, int32_t unit, const int32_t *numbers,          \
+    frost_written JOIN(who, file_write)(uint32_t kind, uint32_t width, int32_t unit, const int64_t *numbers,          \
                                         size_t numbers_length, const uint8_t *rounds, size_t rounds_length,           \
                                         uint8_t *file, size_t room);                                                  \
-    frost_reading_answer JOIN(who, reading_of_run)(uint32_t kind, uint32_t width, const int32_t *numbers,             \
+    frost_reading_answer JOIN(who, reading_of_run)(uint32_t kind, uint32_t width, const int64_t *numbers,             \
                                                    size_t numbers_length, const uint8_t *rounds,                      \
                                                    size_t rounds_length, size_t first, size_t length);                \
     frost_written JOIN(who, listing_text)(const uint8_t *file, size_t length, uint8_t *text, size_t room)

@@ -3,7 +3,7 @@
  *   measure check       holds the answers of every peer to the library's and prints `ROW PEER PIECES` for each
  *   measure times       prints `ROW PEER PIECES NANOSECONDS` for each, the best of several turns
  *   measure ROW PEER N  runs one loop N times, for a counter of instructions
- *   measure file        writes the file of the most records, for the listing programs
+ *   measure file        writes the file of the most records, of version 1, for the listing programs
  */
 #include <stdio.h>
 #include <stdlib.h>
@@ -14,8 +14,8 @@
 #include "work.h"
 
 enum { TURNS = 61, ODD_WORKS = 1000 };
-/* What a lent text buffer holds before the call: neither a digit nor 0, so that a byte written behind the text, or by a
- * call that refuses, shows. */
+/* What lent buffers hold before the call: neither a digit nor 0, so that a byte written behind the last named one, or
+ * by a call that refuses, shows. */
 enum { UNWRITTEN = 'u' };
 
 extern loop *const library[LOOPS], *const call[LOOPS], *const inlined[LOOPS], *const second[LOOPS];
@@ -51,30 +51,34 @@ static const struct peer {
 enum { PEERS = sizeof peers / sizeof *peers };
 
 /* A repetition goes through all works of a row, and so through as many words or records in every row. Short files are
- * several works, not one time and again, which a processor learns by heart. Repetitions: enough for the clock. */
+ * several works, not one time and again, which a processor learns by heart. Every work has a file, also where its loop
+ * reads none, and so every row the version of its files. Repetitions: enough for the clock. */
 enum { PIECES = MOST_RECORDS, MOST_WORKS = 8 };
 static const struct row {
     const char *name;
-    int loop, works, repetitions;
+    int loop, version, works, repetitions;
 } rows[] = {
-    {"sum", SUM, 1, 50},
-    {"cut", CUT, 1, 50},
-    {"even-cut", EVEN_CUT, 1, 50},
-    {"product", PRODUCT, 1, 50},
-    {"put-hand-out", PUT_HAND_OUT, 1, 20},
-    {"bank", BANK, 1, 20},
-    {"import-plain", IMPORT_PLAIN, 1, 20},
-    {"import-half", IMPORT_HALF, 1, 20},
-    {"text-write", TEXT_WRITE, 1, 20},
-    {"text-read", TEXT_READ, 1, 20},
-    {"read", READ, 1, 100},
-    {"write", WRITE, 1, 100},
-    {"reading", READING, 1, 100},
-    {"listing", LISTING, 1, 5},
-    {"listing-little", LISTING_IN_LITTLE_ROOM, 1, 5},
-    {"read-1000", READ, MOST_WORKS, 100},
-    {"write-1000", WRITE, MOST_WORKS, 100},
-    {"listing-1000", LISTING, MOST_WORKS, 5},
+    {"sum", SUM, VERSION_1, 1, 50},
+    {"cut", CUT, VERSION_1, 1, 50},
+    {"even-cut", EVEN_CUT, VERSION_1, 1, 50},
+    {"product", PRODUCT, VERSION_1, 1, 50},
+    {"put-hand-out", PUT_HAND_OUT, VERSION_1, 1, 20},
+    {"bank", BANK, VERSION_1, 1, 20},
+    {"import-plain", IMPORT_PLAIN, VERSION_1, 1, 20},
+    {"import-half", IMPORT_HALF, VERSION_1, 1, 20},
+    {"text-write", TEXT_WRITE, VERSION_1, 1, 20},
+    {"text-read", TEXT_READ, VERSION_1, 1, 20},
+    {"read", READ, VERSION_1, 1, 100},
+    {"write", WRITE, VERSION_1, 1, 100},
+    {"read-2", READ, VERSION_2, 1, 100},
+    {"write-2", WRITE, VERSION_2, 1, 100},
+    {"reading", READING, VERSION_1, 1, 100},
+    {"listing", LISTING, VERSION_1, 1, 5},
+    {"listing-little", LISTING_IN_LITTLE_ROOM, VERSION_1, 1, 5},
+    {"listing-2", LISTING, VERSION_2, 1, 5},
+    {"read-1000", READ, VERSION_1, MOST_WORKS, 100},
+    {"write-1000", WRITE, VERSION_1, MOST_WORKS, 100},
+    {"listing-1000", LISTING, VERSION_1, MOST_WORKS, 5},
 };
 enum { ROWS = sizeof rows / sizeof *rows };
 
@@ -153,6 +157,9 @@ static void fail(const char *peer, const char *what)
 static void clear(struct answers *a, int words)
 {
     memset(a, 0, sizeof *a);
+    memset(a->numbers, UNWRITTEN, sizeof a->numbers);
+    memset(a->rounds, UNWRITTEN, sizeof a->rounds);
+    memset(a->bytes, UNWRITTEN, sizeof a->bytes);
     for (int i = 0; i < words; i++)
         memset(a->written_texts[i].bytes, UNWRITTEN, sizeof a->written_texts[i].bytes);
 }
@@ -195,7 +202,7 @@ static void check_odd(void)
 static void prepare(const struct row *row)
 {
     for (int i = 0; i < row->works; i++)
-        make_work(&works[i], (uint64_t)i, PIECES / (uint32_t)row->works);
+        make_work(&works[i], (uint64_t)i, &layouts[row->version], PIECES / (uint32_t)row->works);
 #ifdef FIXMATH
     fixmath_prepare(works);
 #endif
@@ -272,7 +279,7 @@ static int run(const char *row, const char *peer, int repetitions)
 
 static int write_file(void)
 {
-    make_work(works, 0, PIECES);
+    make_work(works, 0, &layouts[VERSION_1], PIECES);
     return fwrite(works->file, 1, works->length, stdout) == works->length ? 0 : 1;
 }
 

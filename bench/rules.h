@@ -3,6 +3,7 @@
 #define RULES_H
 
 #include <stddef.h>
+#include <stdint.h>
 
 enum cause {
     DONE = 0,
@@ -32,33 +33,57 @@ enum digit_byte { PLUS = '+', ZERO = '0', MINUS = '-' };
 /* Their bytes in a file; KINDS is the first byte that is no kind. */
 enum kind_byte { PLAIN, ROUND_BIT, HALF_UNIT, KINDS };
 
-/* The block file, version 1. */
-#define MARK_AND_VERSION "RNB\1\0"
+/* The block file: a header, which every version has, and records. */
+#define MARK "RNB"
 enum {
+    VERSION_AT = 3,
     KIND_AT = 5,
     WIDTH_AT = 6,
     UNIT_AT = 7,
     COUNT_AT = 8,
     HEADER_SIZE = 12,
-    /* In a record: the number, then the round bit. */
-    ROUND_AT = 4,
-    RECORD_SIZE = ROUND_AT + 1,
-    LEAST_FILE_WIDTH = LEAST_WIDTH,
-    MOST_FILE_WIDTH = 32,
+    /* In a record: the number, whose high bytes not every version has, then the round bit. */
+    LOW_SIZE = 4,
+    HIGH_SIZE = 2,
+    ROUND_SIZE = 1,
     MOST_RECORDS = 8000,
-    LONGEST_FILE = HEADER_SIZE + RECORD_SIZE * MOST_RECORDS,
+    LONGEST_FILE = HEADER_SIZE + (LOW_SIZE + HIGH_SIZE + ROUND_SIZE) * MOST_RECORDS,
     /* As the header has it. */
-    LONGEST_LISTING = 248019,
+    LONGEST_LISTING = 328019,
 };
+
+/* One row for each version: what sets it apart. No width stands in two of them, so that a block has one file. */
+enum { VERSION_1, VERSION_2, VERSIONS };
+static const struct layout {
+    uint16_t version;
+    uint8_t number_size, least_width, most_width;
+} layouts[VERSIONS] = {
+    {1, LOW_SIZE, LEAST_WIDTH, 32},
+    {2, LOW_SIZE + HIGH_SIZE, 33, 48},
+};
+
+/* The layout of a file of such words, or NULL where no file has them. */
+static inline const struct layout *layout_for(uint32_t width)
+{
+    for (const struct layout *l = layouts; l < layouts + VERSIONS; l++)
+        if (l->least_width <= width && width <= l->most_width)
+            return l;
+    return NULL;
+}
+
+static inline size_t record_size(const struct layout *layout)
+{
+    return layout->number_size + ROUND_SIZE;
+}
+
+/* The length of a file of so many records, and so where the record of this index begins. */
+static inline size_t file_size(const struct layout *layout, size_t count)
+{
+    return HEADER_SIZE + record_size(layout) * count;
+}
 
 /* A reading for the plotting desk. */
 enum { LEAST_READING_WIDTH = LEAST_WIDTH, MOST_READING_WIDTH = 24 };
-
-/* The length of a file of so many records, and so where the record of this index begins. */
-static inline size_t file_size(size_t count)
-{
-    return HEADER_SIZE + RECORD_SIZE * count;
-}
 
 /* The filter bank: as many samples as taps. */
 enum { CHANNELS = 4, TAPS = 8, TAP_WIDTH = 12, SAMPLE_WIDTH = 16, BANK_SUM_WIDTH = 31, BANK_DEPTH = 11 };

@@ -10,7 +10,6 @@ mod model;
 
 use library::*;
 use model::block_file::Block;
-use model::layout::VERSION_1;
 use model::reading::{self, Run};
 use model::{bank, binary64, block_file, digit_text, listing, round_bit, running_sum};
 use std::slice::{from_raw_parts, from_raw_parts_mut};
@@ -108,7 +107,7 @@ pub unsafe extern "C" fn second_digit_text_read(
 pub unsafe extern "C" fn second_file_read(
     file: *const u8,
     length: usize,
-    numbers: *mut i32,
+    numbers: *mut i64,
     numbers_room: usize,
     rounds: *mut u8,
     rounds_room: usize,
@@ -127,7 +126,7 @@ pub unsafe extern "C" fn second_file_write(
     kind: u32,
     width: u32,
     unit: i32,
-    numbers: *const i32,
+    numbers: *const i64,
     numbers_length: usize,
     rounds: *const u8,
     rounds_length: usize,
@@ -141,11 +140,7 @@ pub unsafe extern "C" fn second_file_write(
         numbers: from_raw_parts(numbers, numbers_length),
         rounds: from_raw_parts(rounds, rounds_length),
     };
-    OfModel::of(block_file::write(
-        VERSION_1,
-        block,
-        from_raw_parts_mut(file, room),
-    ))
+    OfModel::of(block_file::write(block, from_raw_parts_mut(file, room)))
 }
 
 /// # Safety
@@ -154,7 +149,7 @@ pub unsafe extern "C" fn second_file_write(
 pub unsafe extern "C" fn second_reading_of_run(
     kind: u32,
     width: u32,
-    numbers: *const i32,
+    numbers: *const i64,
     numbers_length: usize,
     rounds: *const u8,
     rounds_length: usize,

@@ -15,9 +15,12 @@ ROWS = {
     "text-read": "digit text read",
     "read": "file read, 8,000 records",
     "write": "file write, 8,000 records",
+    "read-2": "file read, 8,000 of version 2",
+    "write-2": "file write, 8,000 of version 2",
     "reading": "reading, 8,000 records",
     "listing": "listing, 8,000 records",
     "listing-little": "the same in less room",
+    "listing-2": "listing, 8,000 of version 2",
     "program": "listing program, 8,000 records",
 }
 PEERS = {"call": "C behind a call", "inlined": "C inlined", "second": "second program"}
@@ -35,9 +38,11 @@ AIMS = {
     ("import-half", "call"): 1.2,
     ("text-read", "call"): 1.2,
     ("read", "call"): 2,
+    ("read-2", "call"): 2,
     ("reading", "call"): 1.2,
     ("listing", "call"): 1,
     ("listing-little", "call"): 1,
+    ("listing-2", "call"): 1,
     ("program", "call"): 1,
 }
 GROWTH_AIM = 1.1

@@ -57,45 +57,62 @@ static int32_t odd_unit(uint64_t *state)
     return (int32_t)below(state, MOST_UNIT - LEAST_UNIT + 2 * UNITS_PAST) + LEAST_UNIT - UNITS_PAST;
 }
 
-/* Mostly of the given format, or every pair would be refused for that. The number may have a digit too many, and often
- * lies at the edge of its width. */
+/* May have a digit too many, and often lies at the edge of its width. */
+static int64_t odd_number(uint64_t *state, uint32_t width)
+{
+    int64_t odd = number(state, width < MOST_WIDTH ? width : MOST_WIDTH);
+    if (below(state, 4) == 0 && 1 <= width && width <= MOST_WIDTH)
+        odd = signed_by_chance(state, ((int64_t)1 << (width - 1)) - below(state, 3));
+    return odd;
+}
+
+/* Mostly of the given format, or every pair would be refused for that. */
 static frost_round_bit odd_word(uint64_t *state, uint32_t width, int32_t unit)
 {
     if (below(state, 4) == 0) {
         width = below(state, WIDTHS_AND_PAST);
         unit = odd_unit(state);
     }
-    frost_round_bit w = {number(state, width < MOST_WIDTH ? width : MOST_WIDTH), width, unit, 0};
-    if (below(state, 4) == 0 && 1 <= width && width <= MOST_WIDTH)
-        w.number = signed_by_chance(state, ((int64_t)1 << (width - 1)) - below(state, 3));
+    frost_round_bit w = {odd_number(state, width), width, unit, 0};
     w.round = below(state, 16) % 5 % 3;
     return w;
 }
 
-static void put_bytes(uint8_t *to, uint32_t x)
+static void put_bytes(uint8_t *to, uint64_t x, size_t size)
 {
-    for (int i = 0; i < ROUND_AT; i++)
+    for (size_t i = 0; i < size; i++)
         to[i] = (uint8_t)(x >> 8 * i);
 }
 
-static void make_block(struct work *w, uint64_t *state, uint32_t records)
+/* The file of the block as it stands, also where the block is no good. */
+static void make_file(struct work *w, const struct layout *layout)
 {
-    w->kind = ROUND_BIT;
-    w->width = MOST_FILE_WIDTH;
-    w->unit = -8;
-    w->numbers_count = w->rounds_count = records;
-    memcpy(w->file, MARK_AND_VERSION, KIND_AT);
+    memcpy(w->file, MARK, VERSION_AT);
+    put_bytes(w->file + VERSION_AT, layout->version, KIND_AT - VERSION_AT);
     w->file[KIND_AT] = (uint8_t)w->kind;
     w->file[WIDTH_AT] = (uint8_t)w->width;
     w->file[UNIT_AT] = (uint8_t)w->unit;
-    put_bytes(w->file + COUNT_AT, records);
-    for (uint32_t k = 0; k < records; k++) {
-        w->numbers[k] = (int32_t)number(state, w->width - 1);
-        w->rounds[k] = next(state) & 1;
-        put_bytes(w->file + file_size(k), (uint32_t)w->numbers[k]);
-        w->file[file_size(k) + ROUND_AT] = w->rounds[k];
+    put_bytes(w->file + COUNT_AT, w->numbers_count, HEADER_SIZE - COUNT_AT);
+    for (size_t k = 0; k < w->numbers_count; k++) {
+        uint8_t *record = w->file + file_size(layout, k);
+        put_bytes(record, (uint64_t)w->numbers[k], layout->number_size);
+        record[layout->number_size] = w->rounds[k];
     }
-    w->length = file_size(records);
+    w->length = file_size(layout, w->numbers_count);
+}
+
+/* Of the widest words that the version has. */
+static void make_block(struct work *w, uint64_t *state, const struct layout *layout, uint32_t records)
+{
+    w->kind = ROUND_BIT;
+    w->width = layout->most_width;
+    w->unit = -8;
+    w->numbers_count = w->rounds_count = records;
+    for (uint32_t k = 0; k < records; k++) {
+        w->numbers[k] = number(state, w->width - 1);
+        w->rounds[k] = next(state) & 1;
+    }
+    make_file(w, layout);
 }
 
 /* Taps of one channel, or samples of one window. */
@@ -159,7 +176,7 @@ static void make_run(struct run *r, uint64_t *state, uint32_t records)
     r->numbers_count = r->rounds_count = r->length = records;
     r->first = 0;
     for (uint32_t k = 0; k < records; k++) {
-        r->numbers[k] = (int32_t)number(state, r->width - 1);
+        r->numbers[k] = number(state, r->width - 1);
         r->rounds[k] = next(state) & 1;
     }
 }
@@ -195,7 +212,7 @@ static void make_imports(struct work *w, uint64_t *state)
 }
 
 /* Widths end at 32 and units at 60, so that no product is refused. */
-void make_work(struct work *w, uint64_t seed, uint32_t records)
+void make_work(struct work *w, uint64_t seed, const struct layout *layout, uint32_t records)
 {
     uint64_t state = 20260101 + seed;
     w->words = MOST_WORDS;
@@ -210,7 +227,7 @@ void make_work(struct work *w, uint64_t seed, uint32_t records)
         w->depths[i] = below(&state, width - 1);
         w->samples[i] = good_word(&state, SUM_WIDTH, SUM_UNIT);
     }
-    make_block(w, &state, records);
+    make_block(w, &state, layout, records);
     make_banks(w, &state);
     make_texts(w, &state);
     w->numbers_room = w->rounds_room = MOST_RECORDS;
@@ -221,25 +238,95 @@ void make_work(struct work *w, uint64_t seed, uint32_t records)
     make_imports(w, &state);
 }
 
-/* A file with a byte or two changed and perhaps a wrong length, and a block and rooms that do not fit it. */
-static void make_odd_block(struct work *w, uint64_t *state)
+static const struct layout *any_layout(uint64_t *state)
 {
-    make_block(w, state, below(state, 4));
-    w->file[below(state, (uint32_t)w->length)] = (uint8_t)(next(state) >> below(state, 8));
+    return &layouts[below(state, VERSIONS)];
+}
+
+/* Mostly one that this version has; at one of its ends or just past it; or any. */
+static uint32_t odd_file_width(uint64_t *state, const struct layout *layout)
+{
+    switch (below(state, 8)) {
+    case 0:
+        return layout->least_width - below(state, 2);
+    case 1:
+        return layout->most_width + below(state, 2);
+    case 2:
+        return below(state, WIDTHS_AND_PAST);
+    default:
+        return layout->least_width + below(state, layout->most_width - layout->least_width + 1);
+    }
+}
+
+/* The same low digits, as many as a record of some version has, and others above: who keeps the low ones alone takes it
+ * for the near one. */
+static int64_t far_number(uint64_t *state, int64_t near)
+{
+    uint32_t kept = 8 * any_layout(state)->number_size;
+    return (int64_t)((uint64_t)near + ((uint64_t)number(state, MOST_WIDTH - kept) << kept));
+}
+
+/* Some of them no good in a block of this width. A kind without round bits has mostly zeros there. */
+static void make_odd_records(int64_t *numbers, uint8_t *rounds, size_t count, uint64_t *state, uint32_t kind,
+                             uint32_t width)
+{
+    for (size_t k = 0; k < count; k++) {
+        if (below(state, 2) == 0)
+            numbers[k] = odd_number(state, width);
+        else if (LEAST_WIDTH <= width && width <= MOST_WIDTH)
+            numbers[k] = number(state, width - 1);
+        if (below(state, 16) == 0)
+            numbers[k] = far_number(state, numbers[k]);
+        if (below(state, 32) == 0)
+            rounds[k] = (uint8_t)next(state);
+    }
+    if (kind != ROUND_BIT && below(state, 8) != 0)
+        memset(rounds, 0, count);
+}
+
+/* The block's file, perhaps with a byte changed or of a wrong length. Perhaps it says that it is of another version,
+ * and its length and width are perhaps that one's too. */
+static void make_odd_file(struct work *w, uint64_t *state, const struct layout *layout)
+{
+    make_file(w, layout);
+    if (below(state, 4) == 0) {
+        const struct layout *other = any_layout(state);
+        w->file[VERSION_AT] = (uint8_t)(below(state, 4) == 0 ? below(state, VERSIONS + 2) : other->version);
+        if (below(state, 4) != 0)
+            w->length = file_size(other, w->numbers_count);
+        if (below(state, 2) == 0)
+            w->file[WIDTH_AT] = (uint8_t)odd_file_width(state, other);
+    }
     if (below(state, 2) == 0)
-        w->file[KIND_AT] = (uint8_t)below(state, KINDS + 1);
+        w->file[below(state, (uint32_t)w->length)] = (uint8_t)(next(state) >> below(state, 8));
     if (below(state, 16) == 0)
         w->file[UNIT_AT] = (uint8_t)(LEAST_UNIT - 1);
-    if (below(state, 8) == 0)
+    if (below(state, 16) == 0)
+        w->length = file_size(any_layout(state), w->numbers_count);
+    if (below(state, 16) == 0)
         w->length = below(state, 2 * (uint32_t)w->length);
+}
+
+/* A block of some version with odd records, an odd file of it, and then perhaps another width and unlike lengths. Rooms
+ * are often too short, that of the file often by a byte. */
+static void make_odd_block(struct work *w, uint64_t *state)
+{
+    const struct layout *layout = any_layout(state);
+    make_block(w, state, layout, below(state, 4));
     w->kind = below(state, 16) % 5 % (KINDS + 1);
-    w->width = below(state, 2) == 0 ? below(state, MOST_FILE_WIDTH + 4) : w->width;
     w->unit = odd_unit(state);
-    w->rounds_count = below(state, 8) == 0 ? 2 : w->numbers_count;
+    if (below(state, 4) != 0)
+        w->width = odd_file_width(state, layout);
+    make_odd_records(w->numbers, w->rounds, w->numbers_count, state, w->kind, w->width);
+    make_odd_file(w, state, layout);
+    if (below(state, 4) == 0)
+        w->width = odd_file_width(state, any_layout(state));
+    if (below(state, 8) == 0)
+        w->rounds_count = below(state, 4);
     w->numbers_room = below(state, 8);
     w->rounds_room = below(state, 8);
-    w->file_room = below(state, 64);
-    w->text_room = below(state, 128);
+    w->file_room = file_size(any_layout(state), w->numbers_count) - below(state, 2);
+    w->text_room = below(state, 192);
     w->little_text_room = below(state, 64);
 }
 
@@ -305,13 +392,9 @@ static void make_odd_run(struct run *r, uint64_t *state)
     make_run(r, state, records);
     if (below(state, 2) == 0)
         r->width = below(state, MOST_READING_WIDTH + WIDTHS_PAST + 1);
-    for (uint32_t k = 0; k < records; k++)
-        if (below(state, 8) != 0 && LEAST_WIDTH <= r->width)
-            r->numbers[k] = (int32_t)number(state, r->width - 1);
     if (below(state, 4) == 0)
         r->kind = below(state, KINDS + 1);
-    if (r->kind != ROUND_BIT && below(state, 8) != 0)
-        memset(r->rounds, 0, sizeof r->rounds);
+    make_odd_records(r->numbers, r->rounds, records, state, r->kind, r->width);
     if (below(state, 8) == 0)
         r->rounds_count = below(state, 8);
     r->first = below(state, 16) == 0 ? next(state) : below(state, records + 1);

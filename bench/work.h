@@ -43,7 +43,7 @@ struct import {
 struct run {
     uint32_t kind, width;
     size_t numbers_count, rounds_count, first, length;
-    int32_t numbers[MOST_RECORDS];
+    int64_t numbers[MOST_RECORDS];
     uint8_t rounds[MOST_RECORDS];
 };
 
@@ -65,7 +65,7 @@ struct work {
     uint32_t kind, width;
     int32_t unit;
     size_t numbers_count, rounds_count;
-    int32_t numbers[MOST_RECORDS];
+    int64_t numbers[MOST_RECORDS];
     uint8_t rounds[MOST_RECORDS];
     size_t length;
     uint8_t file[LONGEST_FILE];
@@ -88,7 +88,7 @@ struct answers {
     struct written_text written_texts[MOST_WORDS];
     frost_text_answer texts[MOST_WORDS];
     frost_file_head head;
-    int32_t numbers[MOST_RECORDS];
+    int64_t numbers[MOST_RECORDS];
     uint8_t rounds[MOST_RECORDS];
     frost_reading_answer reading;
     frost_written written;
@@ -120,10 +120,10 @@ enum {
 
 typedef void loop(const struct work *w, struct answers *a);
 
-/* Work that nobody refuses, to be measured; each seed has records of its own. */
-void make_work(struct work *w, uint64_t seed, uint32_t records);
+/* Work that nobody refuses, to be measured; each seed has records of its own, in a file of this layout. */
+void make_work(struct work *w, uint64_t seed, const struct layout *layout, uint32_t records);
 
-/* Little work, with every cause to be refused over many seeds, to be checked. */
+/* Little work, with every cause to be refused over many seeds, in files of every version, to be checked. */
 void make_odd_work(struct work *w, uint64_t seed);
 
 #endif
