@@ -13,7 +13,8 @@ use lib.Dec.{eqb}
 use lib.IntN.{ℤ}
 use lib.ListN.{length, getD}
 use borrow.Author.Count.{below-more}
-use borrow.Author.Tests.{ltb-true, ltb-false, lt-ltb, not-true, not-false}
+use borrow.Author.Tests.{ltb-true, lt-ltb, not-true, not-false}
+use Rattle.integers.proofs.Found.{none-found}
 use Rattle.integers.proofs.Lists.{first-bad-le, first-bad-most, first-bad-before, first-bad-at, first-bad-none, first-bad-fails}
 use Rattle.words.specs.Refusals.{numberOf, refuseFor, _orElse_, formatCheck}
 use Rattle.words.specs.Words.{badWidth, badUnit}
@@ -51,7 +52,7 @@ module _ (t : List ℕ) (test : ℕ → Bool) where
   found-leftmost k h e = lt-ltb (leftmost t test) (length t) (omega (arith, first-bad-most (length t) k (λ i. not (test i)) (ap not e)))
 
   pub not-found : found (leftmost t test) t ≡ false → (k : ℕ) → k < length t → test k ≡ false
-  not-found e k h = leftmost-before k (omega (arith, ltb-false (leftmost t test) (length t) e))
+  not-found = none-found (length t) test
 
   pub leftmost-none : ((k : ℕ) → k < length t → test k ≡ false) → leftmost t test ≡ length t
   leftmost-none p = first-bad-none (length t) _ (λ k h. ap not (p k h))

@@ -9,9 +9,11 @@ pub mod Ties
 pub mod Width
 pub mod Halves
 pub mod Machine
+pub mod Tops
 pub mod Widened
 pub mod ExactlyOne
 pub mod Lists
+pub mod Found
 pub mod Bytes
 pub mod Parts
 mod Wrong

@@ -2,7 +2,7 @@
 -- Each is over the element type, and is what one turn of such a loop asks. Assumes nothing.
 -- Proved here: `length-tab`, `getD-tab`, `over-none`, `over-store`, `length-over`, `over-front`, `over-below`, `over-above`, `sets-append`,
 -- `sets-front`, `flat-more`, `length-flat`, `flat-most`, `flat-grows`, `flat-store`, `first-bad-le`, `first-bad-before`, `first-bad-most`,
--- `first-bad-at`, `first-bad-none`, `first-bad-end`, `first-bad-fails`, `all-each`, `each-all`, `all-fails`.
+-- `first-bad-at`, `first-bad-none`, `first-bad-fails`, `all-each`, `each-all`, `all-fails`.
 use mathlib.Core.Path.{_≡_, refl, sym, ap, _∙_}
 use mathlib.Core.Bool.{Bool, true, false, cond, true≢false}
 use mathlib.Core.List.{List, [], _∷_, _++_, append-assoc, append-nil}
@@ -145,10 +145,6 @@ pub first-bad-none : (n : ℕ) (good : ℕ → Bool) → ((k : ℕ) → k < n �
 unfolding firstBad
 first-bad-none zero good p = refl
 first-bad-none (suc n) good p = rw (p zero (omega arith)) (ap suc (first-bad-none n (λ k. good (suc k)) (λ k l. p (suc k) (omega arith))))
-
--- a count that has come to n and met none
-pub first-bad-end : (n k : ℕ) (f : ℕ → Bool) → k ≡ n → ((j : ℕ) → j < k → f j ≡ true) → k ≡ firstBad n f
-first-bad-end n k f e h = e ∙ sym (first-bad-none n f (rw e at h))
 
 -- where it is below n the test fails there
 pub first-bad-fails : (n : ℕ) (good : ℕ → Bool) → firstBad n good < n → good (firstBad n good) ≡ false

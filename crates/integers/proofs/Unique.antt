@@ -6,7 +6,6 @@ use Rattle.integers.proofs.cleared.Reads as cleared
 use Rattle.integers.proofs.digit.Reads as digit
 use Rattle.integers.proofs.low_digits.Reads as low-digits
 use Rattle.integers.proofs.low_byte.Reads as low-byte
-use Rattle.integers.proofs.less_one.Reads as less-one
 use Rattle.integers.proofs.fits_width.Reads as fits-width
 use Rattle.integers.proofs.absolute.Reads as absolute
 use Rattle.integers.proofs.any_below.Reads as any-below
@@ -26,9 +25,6 @@ low-digits-one a x y e f p q = p ∙ sym q
 
 low-byte-one : OneResult (low-byte.Post tt)
 low-byte-one a x y e f p q = p ∙ sym q
-
-less-one-one : OneResult (less-one.Post tt)
-less-one-one a x y e f p q = p ∙ sym q
 
 fits-width-one : OneResult (fits-width.Post tt)
 fits-width-one a x y e f p q = p ∙ sym q

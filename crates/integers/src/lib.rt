@@ -59,8 +59,7 @@ pub fn low_byte(x: i64) -> u8
     (x & 255) as u8
 }
 
-// The place of the sign in n digits; 0 where there are none.
-pub fn less_one(n: u32) -> u64
+fn less_one(n: u32) -> u64
     ensures { λ r. ⌜ r ≡ n - 1 ⌝ }
 {
     if n == 0 { 0 } else { (n - 1) as u64 }
