@@ -1,5 +1,7 @@
 -- What a C caller does with one running sum, in the contracts' own words: `Post` is generated from the function's `ensures`.
-use mathlib.Core.List.{List, [], _∷_}
+use mathlib.Core.Path.{_≡_}
+use mathlib.Core.List.{List}
+use Rattle.integers.specs.Chains.{Chain}
 use Rattle.frostuldi.specs.declared.FrostRunningSum.{FrostRunningSum}
 use Rattle.frostuldi.specs.declared.FrostSumAnswer.{FrostSumAnswer}
 use Rattle.frostuldi.specs.Demand3.{FrostCall, put, handOut, empty, FrostAnswered}
@@ -14,7 +16,6 @@ FrostMeets s handOut a = frost-hand-out.Post tt (s, tt) a (s, tt)
 FrostMeets s empty a = frost-empty.Post tt (s, tt) a (s, tt)
 
 -- from the first sum, by these calls and their answers, to the last: each call is made on the sum that came back from the call before
-pub data FrostLinks : FrostRunningSum → List FrostAnswered → FrostRunningSum → Type 0 where
-  no-link : {s : FrostRunningSum} → FrostLinks s [] s
-  link : {s u : FrostRunningSum} {a : FrostAnswered} {more : List FrostAnswered} →
-      FrostMeets s (a .call) (a .answer) → FrostLinks (a .answer .sum) more u → FrostLinks s (a ∷ more) u
+abbrev pub FrostLinks : FrostRunningSum → List FrostAnswered → FrostRunningSum → Type 0
+FrostLinks s done last =
+    Chain (λ (s : FrostRunningSum) (a : FrostAnswered) (t : FrostRunningSum). FrostMeets s (a .call) (a .answer) × (t ≡ a .answer .sum)) s done last

@@ -4,14 +4,13 @@
 -- values are in half units of the sum's unit. Assumes nothing.
 -- Proved here: `round-bit-back`, `sum-back`, `sum-forth`, `flat-linked-refused`, `flat-linked-totals`, `flat-linked-small`, `flat-linked-near`,
 -- `flat-linked-equal`, `flat-linked-unchanged`, `flat-linked-passes`, `flat-linked-shut`.
-use Prim.Native.Nat.{ℕ, zero, suc, _-_, _^_, _≤_}
-use native.Mathlib.Omega.{arith}
-use mathlib.Core.Path.{_≡_, refl, sym, ap, _∙_, subst}
+use Prim.Native.Nat.{ℕ, zero, suc, _^_, _≤_}
+use mathlib.Core.Path.{_≡_, refl, ap, _∙_, subst}
 use mathlib.Core.List.{List, [], _∷_, _++_, map, map-append}
 use lib.IntN.{ℤ, pos, natAbs, _+ℤ_, _-ℤ_}
-use Rattle.words.specs.Refusals.{numberOf, causeNumber, row}
-use Rattle.words.specs.declared.{Cause.the-variants.Width, Format.Format, Outcome.{Outcome, the-variants.{Done, Refused}}, RoundBitWord.RoundBitWord}
-use Rattle.words.proofs.Laws.{cause-of-number, cause-some, found, refused-not-done}
+use Rattle.integers.proofs.Chains.{chain-map}
+use Rattle.words.specs.Refusals.{numberOf}
+use Rattle.words.specs.declared.{Format.Format, Outcome.{Outcome, the-variants.Done}, RoundBitWord.RoundBitWord}
 use Rattle.running_sum.specs.declared.{RunningSum.RunningSum, OpenAnswer.OpenAnswer}
 use Rattle.running_sum.specs.Steps.{Call, blank, openOf, stepOf}
 use Rattle.running_sum.specs.Totals.{Answered, takenIn, givenOut, accepted, handedOut}
@@ -24,6 +23,7 @@ use Rattle.frostuldi.specs.Demand3.{FrostCall, put, handOut, empty, Fros
 use Rattle.frostuldi.specs.Demand3.{flatTakenIn, flatGivenOut, flatAccepted, flatHandedOut, flatKept}
 use Rattle.frostuldi.proofs.frost_running_sum_open.Reads as frost-open
 use Rattle.frostuldi.proofs.Chains.{FrostMeets, FrostLinks}
+use Rattle.frostuldi.proofs.Outcomes.{outcomeIn, outcome-back, done-zero}
 
 -- ---- what goes out comes in again unchanged, and what comes in goes out unchanged
 pub round-bit-back : (w : RoundBitWord) → roundBitIn (flatRoundBit w) ≡ w
@@ -34,23 +34,6 @@ sum-back o w s = refl
 
 pub sum-forth : (o : Outcome) (w : RoundBitWord) (s : FrostRunningSum) → sumOut o w (sumIn s) .sum ≡ s
 sum-forth o w s = refl
-
--- ---- the outcome that a refusal's number stands for
-abbrev outcomeIn : ℕ → Outcome
-outcomeIn zero = Done
-outcomeIn (suc n) = Refused (found Width (row (suc n)))
-
-outcome-back : (o : Outcome) → outcomeIn (numberOf o) ≡ o
-outcome-back Done = refl
-outcome-back (Refused c) =
-    let above : causeNumber c ≡ suc (causeNumber c - 1) = omega (arith, cause-some c) in
-    ap outcomeIn above
-    ∙ ap (λ (n : ℕ). Refused (found Width (row n))) (sym above)
-    ∙ ap (λ (o : Outcome). Refused (found Width o)) (cause-of-number c)
-
-done-zero : (n : ℕ) → outcomeIn n ≡ Done → n ≡ 0
-done-zero zero e = refl
-done-zero (suc n) e = absurd (refused-not-done e)
 
 -- ---- a link of the C functions is a link of the methods, and a chain a chain
 abbrev callIn : FrostCall → Call
@@ -81,8 +64,9 @@ link-in s handOut a m = let p = answer-back _ _ _ m in λ i. record { outcome = 
 link-in s empty a m = let p = answer-back _ _ _ m in λ i. record { outcome = p .0 i; word = p .1 i; sum = p .2 i }
 
 chain-in : {s u : FrostRunningSum} {done : List FrostAnswered} → FrostLinks s done u → Links (sumIn s) (answersIn done) (sumIn u)
-chain-in FrostLinks.no-link = Links.no-link
-chain-in (FrostLinks.link {s = s} {a = a} m l) = Links.link (link-in s (a .call) (a .answer) m) (chain-in l)
+chain-in chain =
+    chain-map sumIn (λ (a : FrostAnswered). answeredIn (a .call) (outcomeIn (a .answer .refusal)) (a .answer))
+    (λ s t a m. rw (m .1) (link-in s (a .call) (a .answer) (m .0))) chain
 
 -- a call with refusal 0 is a done one
 done-in : (s : FrostRunningSum) (c : FrostCall) (a : FrostSumAnswer) → FrostMeets s c a → a .refusal ≡ 0 → MeetsIn s c Done a

@@ -1,4 +1,5 @@
 mod Unique
 pub mod Mapped
+pub mod Outcomes
 pub mod Chains
 pub mod Demand3

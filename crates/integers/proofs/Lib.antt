@@ -16,6 +16,7 @@ pub mod Lists
 pub mod Found
 pub mod Bytes
 pub mod Parts
+pub mod Chains
 mod Wrong
 mod Unique
 mod Examples

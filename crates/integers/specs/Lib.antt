@@ -3,3 +3,4 @@ pub mod Lists
 pub mod Bytes
 pub mod Names
 pub mod OneOutcome
+pub mod Chains

@@ -7,7 +7,9 @@ use Prim.Native.Nat.{ℕ, _^_, _≤_}
 use mathlib.Core.Path.{_≡_, refl, sym, ap, _∙_, subst}
 use mathlib.Core.List.{List, [], _∷_, _++_, map}
 use lib.IntN.{ℤ, natAbs, _+ℤ_, _-ℤ_, +ℤ-idr}
+use Rattle.integers.specs.Chains.{Chain, no-link, link}
 use Rattle.integers.proofs.Kit.{ints, plus-law, minus-law}
+use Rattle.integers.proofs.Chains.{chain-more}
 use Rattle.words.specs.RoundBit.{roundBitValue}
 use Rattle.words.specs.declared.Cause.{Cause}
 use Rattle.words.specs.declared.Outcome.{Outcome}
@@ -34,9 +36,11 @@ Meets s handOut o v t = hand-out-method.Post tt (s, tt) (record { outcome = o; w
 Meets s empty o v t = empty-method.Post tt (s, tt) (record { outcome = o; word = v; sum = t }) (s, tt)
 
 -- from the first sum, by these calls and answers, to the last
-pub data Links : RunningSum → List Answered → RunningSum → Type 0 where
-  no-link : {s : RunningSum} → Links s [] s
-  link : {s t u : RunningSum} {a : Answered} {more : List Answered} → Meets s (a .call) (a .outcome) (a .word) t → Links t more u → Links s (a ∷ more) u
+abbrev Link : RunningSum → Answered → RunningSum → Type 0
+Link s a t = Meets s (a .call) (a .outcome) (a .word) t
+
+abbrev pub Links : RunningSum → List Answered → RunningSum → Type 0
+Links s done last = Chain Link s done last
 
 -- a link is the definition's step
 pub meets-step : (s : RunningSum) (c : Call) (o : Outcome) (v : RoundBitWord) (t : RunningSum) → Meets s c o v t →
@@ -60,12 +64,6 @@ links-run (link {s = s} {t = t} {u = u} {a = a} {more = more} m l) =
       (λ i. first i ∷ (r .0 ∙ ap (λ (x : RunningSum). answered x (calls more)) (p .2)) i),
       r .1 ∙ ap (λ (x : RunningSum). left x (calls more)) (p .2),
     )
-
--- one link more
-links-more : {s t u : RunningSum} {done : List Answered} (a : Answered) → Links s done t → Meets t (a .call) (a .outcome) (a .word) u →
-    Links s (done ++ a ∷ []) u
-links-more a no-link m = link m no-link
-links-more a (link n l) m = link n (links-more a l m)
 
 -- 0. a refused call, on any sum at all, leaves the sum as it was and hands back the blank word
 pub linked-refused : (s : RunningSum) (c : Call) (r : Cause) (v : RoundBitWord) (t : RunningSum) → Meets s c (Refused r) v t → (t ≡ s) × (v ≡ blank)
@@ -136,7 +134,7 @@ module _ (n : ℕ) (e : ℤ) (d : ℕ) (a : OpenAnswer) (opening : open-method.P
           let k = roundBitValue (t .kept) in
           let same : i -ℤ o ≡ k = omega (
             ints,
-            linked-totals now t (links-more (record { call = handOut; outcome = Done; word = v }) chain m),
+            linked-totals now t (chain-more {Link = Link} (record { call = handOut; outcome = Done; word = v }) chain m),
             plus-law o k,
             minus-law i o,
           ) in
@@ -148,5 +146,5 @@ module _ (n : ℕ) (e : ℤ) (d : ℕ) (a : OpenAnswer) (opening : open-method.P
     linked-equal v t m =
         let p = meets-step last empty Done v t m in
         let now = done ++ record { call = empty; outcome = Done; word = v } ∷ [] in
-        linked-totals now t (links-more (record { call = empty; outcome = Done; word = v }) chain m)
+        linked-totals now t (chain-more {Link = Link} (record { call = empty; outcome = Done; word = v }) chain m)
         ∙ rw (p .2, empty-nothing last (sym (p .0)), +ℤ-idr)
