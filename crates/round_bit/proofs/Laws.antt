@@ -2,6 +2,7 @@
 pub mod Signs
 pub mod Cuts
 pub mod EvenCuts
+pub mod Moves
 pub mod Widenings
 pub mod Added
 pub mod Sums

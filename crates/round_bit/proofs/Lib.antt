@@ -1,6 +1,8 @@
 mod Examples
+mod Runs
 pub mod Checks
 pub mod Magnitudes
 pub mod Laws
+pub mod Links
 mod Wrong
 mod Unique

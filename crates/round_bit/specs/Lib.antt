@@ -1,2 +1,3 @@
 pub mod Cuts
 pub mod Arithmetic
+pub mod Moves

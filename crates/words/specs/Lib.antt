@@ -4,4 +4,5 @@ pub mod Formats
 pub mod Plain
 pub mod RoundBit
 pub mod HalfUnit
+pub mod Moves
 pub mod Flat

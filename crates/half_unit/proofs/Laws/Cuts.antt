@@ -1,6 +1,7 @@
 -- Sign change and cut: what they do to values, and to each other. Assumes nothing.
--- Proved here: `floor-moves`, `answer-closed`, `sign-change-closed`, `cut-word-passes`, `cut-closed`, `sign-change-value`, `sign-change-twice`,
--- `cut-value`, `cut-none`, `cut-cut`, `cut-sign-outcome`, `cut-sign`.
+-- Proved here: `floor-moves`, `cut-done`, `cut-tells`, `cut-asks`, `answer-closed`, `sign-change-check`, `sign-change-closed`, `cut-word-passes`,
+-- `cut-closed`, `sign-change-value`, `sign-change-twice`, `cut-near`, `cut-value`, `cut-none`, `cut-word-twice`, `cut-cut`, `cut-sign-outcome`,
+-- `cut-word-sign`, `cut-sign`.
 use Prim.Native.Nat.{ℕ, _+_, _*_, _^_, _<_}
 use native.Mathlib.Omega.{arith}
 use mathlib.Core.Path.{_≡_, refl, sym, ap, _∙_}
@@ -39,14 +40,14 @@ module _ (x v q : ℤ) (c l d : ℕ) (of-v : up v + 2 * down x ≡ 2 * up x + c 
 cut-outcome : (w : HalfUnitWord) (d : ℕ) → cutOf w d .outcome ≡ cutCheck w d
 cut-outcome w d = outcome-kept halfUnitRefused (λ a. a .outcome) (λ c. refl) (cutCheck w d) (halfUnitDone (cutWord w d)) refl
 
-cut-done : (w : HalfUnitWord) (d : ℕ) → cutOf w d .outcome ≡ Done → (cutCheck w d ≡ Done) × (cutOf w d .word ≡ cutWord w d)
+pub cut-done : (w : HalfUnitWord) (d : ℕ) → cutOf w d .outcome ≡ Done → (cutCheck w d ≡ Done) × (cutOf w d .word ≡ cutWord w d)
 cut-done w d e = let c = sym (cut-outcome w d) ∙ e in (c, rw c)
 
 -- ---- what the check of a cut tells, and what it asks
-cut-tells : (w : HalfUnitWord) (d : ℕ) → cutCheck w d ≡ Done → Right (w .format) (w .number .0) 0 × (narrowerCheck (w .format) d ≡ Done)
+pub cut-tells : (w : HalfUnitWord) (d : ℕ) → cutCheck w d ≡ Done → Right (w .format) (w .number .0) 0 × (narrowerCheck (w .format) d ≡ Done)
 cut-tells w d c = let p = both-passed (halfUnitCheck w) (narrowerCheck (w .format) d) c in (half-unit-right w (p .0), p .1)
 
-cut-asks : (w : HalfUnitWord) (d : ℕ) → Right (w .format) (w .number .0) 0 → narrowerCheck (w .format) d ≡ Done → cutCheck w d ≡ Done
+pub cut-asks : (w : HalfUnitWord) (d : ℕ) → Right (w .format) (w .number .0) 0 → narrowerCheck (w .format) d ≡ Done → cutCheck w d ≡ Done
 cut-asks w d g e = both-pass (half-unit-passes w g) e
 
 -- ---- closed: the word of a done answer passes its own check, if a passed check of the operation makes it pass
@@ -54,7 +55,7 @@ module _ (o : Outcome) (w : HalfUnitWord) (passes : o ≡ Done → halfUnitCheck
   pub answer-closed : (o andThen halfUnitDone w) .outcome ≡ Done → halfUnitCheck ((o andThen halfUnitDone w) .word) ≡ Done
   answer-closed e = let c = done-passed halfUnitRefused (λ a. a .outcome) (λ c. refl) o (halfUnitDone w) e in rw c (passes c)
 
-sign-change-check : (w : HalfUnitWord) → halfUnitCheck (signChangeWord w) ≡ halfUnitCheck w
+pub sign-change-check : (w : HalfUnitWord) → halfUnitCheck (signChangeWord w) ≡ halfUnitCheck w
 unfolding halfUnitCheck wordCheck signChangeWord
 sign-change-check w = rw (fits-turned (w .number .0) (w .format .width))
 
@@ -80,11 +81,14 @@ unfolding signChangeWord
 sign-change-twice w = rw (turned-turned (w .number .0))
 
 -- ---- cut: the value moves by strictly less than half a new unit, which is 2 ^ d half old units
-pub cut-value : (w : HalfUnitWord) (d : ℕ) → cutOf w d .outcome ≡ Done → natAbs ((halfUnitValue (cutOf w d .word) *ℤ pos (2 ^ d)) -ℤ halfUnitValue w) < 2 ^ d
+pub cut-near : (w : HalfUnitWord) (d : ℕ) → natAbs ((halfUnitValue (cutWord w d) *ℤ pos (2 ^ d)) -ℤ halfUnitValue w) < 2 ^ d
 unfolding cutWord
-cut-value w d e =
+cut-near w d =
     let x = w .number .0 in
-    rw (cut-done w d e .1) (omega (arith, floor-moves x (halfUnitValue w) (floorBy x d) 1 0 d (half-unit-law x) (omega arith), below-range x d))
+    omega (arith, floor-moves x (halfUnitValue w) (floorBy x d) 1 0 d (half-unit-law x) (omega arith), below-range x d)
+
+pub cut-value : (w : HalfUnitWord) (d : ℕ) → cutOf w d .outcome ≡ Done → natAbs ((halfUnitValue (cutOf w d .word) *ℤ pos (2 ^ d)) -ℤ halfUnitValue w) < 2 ^ d
+cut-value w d e = rw (cut-done w d e .1) (cut-near w d)
 
 pub cut-none : (w : HalfUnitWord) → halfUnitCheck w ≡ Done → cutOf w 0 ≡ cutAnswer (halfUnitDone w)
 unfolding cutWord
@@ -94,7 +98,7 @@ cut-none w e =
     rw (cut-asks w 0 g (narrower-passes (w .format) 0 (g .format) (rw same (g .format))), floor-none (w .number .0), same)
 
 -- a cut after a cut is one cut
-cut-word-twice : (w : HalfUnitWord) (a b : ℕ) → cutWord (cutWord w a) b ≡ cutWord w (a + b)
+pub cut-word-twice : (w : HalfUnitWord) (a b : ℕ) → cutWord (cutWord w a) b ≡ cutWord w (a + b)
 unfolding cutWord
 cut-word-twice w a b = rw (floor-floor (w .number .0) a b, narrower-narrower (w .format) a b)
 
@@ -114,7 +118,7 @@ pub cut-sign-outcome : (w : HalfUnitWord) (d : ℕ) → cutOf (signChangeWord w)
 unfolding signChangeWord
 cut-sign-outcome w d = rw (cut-outcome (signChangeWord w) d, cut-outcome w d, sign-change-check w)
 
-cut-word-sign : (w : HalfUnitWord) (d : ℕ) → cutWord (signChangeWord w) d ≡ signChangeWord (cutWord w d)
+pub cut-word-sign : (w : HalfUnitWord) (d : ℕ) → cutWord (signChangeWord w) d ≡ signChangeWord (cutWord w d)
 unfolding cutWord signChangeWord
 cut-word-sign w d = rw (floor-turned (w .number .0) d)
 

@@ -1,11 +1,12 @@
 -- Cut and rest: what they do to values, and to each other. Assumes nothing.
--- Proved here: `cut-done`, `rest-done`, `cut-tells`, `cut-passes`, `cut-closed`, `rest-closed`, `cut-value`, `cut-none`, `cut-format`, `rest-format`,
--- `cut-cut`, `cut-sign-outcome`, `cut-sign`, `rest-refuses`, `rest-value`, `rest-small`.
+-- Proved here: `cut-done`, `rest-done`, `cut-tells`, `cut-passes`, `cut-right`, `cut-closed`, `rest-closed`, `cut-near`, `cut-value`, `cut-none`,
+-- `cut-by-format`, `cut-format`, `rest-format`, `cut-by-then-cut`, `cut-word-twice`, `cut-cut`, `cut-sign-word`, `cut-sign-outcome`, `cut-sign`,
+-- `rest-refuses`, `rest-value`, `rest-small`.
 use Prim.Native.Nat.{ℕ, zero, suc, _+_, _^_, _≤_}
 use native.Mathlib.Nat.{zero-add, add-zero, pow-succ'}
 use native.Mathlib.Omega.{arith}
 use mathlib.Core.Path.{_≡_, refl, sym, ap, _∙_}
-use lib.IntN.{pos, natAbs, _+ℤ_, _-ℤ_, _*ℤ_}
+use lib.IntN.{ℤ, pos, natAbs, _+ℤ_, _-ℤ_, _*ℤ_}
 use Rattle.integers.specs.Numbers.{floorBy, digit, lowDigits}
 use Rattle.integers.proofs.Kit.{ints, plus-law, minus-law, times-law, size-range, by-abs, abs-range}
 use Rattle.integers.proofs.Times.{times-assoc}
@@ -40,7 +41,7 @@ pub cut-passes : (w : RoundBitWord) (d : ℕ) → RightRoundBit w → narrowerCh
 cut-passes w d g e = both-pass (round-bit-passes w g) e
 
 -- ---- closed: the word of a done answer passes its own check
-cut-right : (w : RoundBitWord) (d : ℕ) → cutCheck w d ≡ Done → RightRoundBit (cutWord w d)
+pub cut-right : (w : RoundBitWord) (d : ℕ) → cutCheck w d ≡ Done → RightRoundBit (cutWord w d)
 unfolding cutBy
 cut-right w zero c = cut-tells w zero c .0
 cut-right w (suc k) c = let t = cut-tells w (suc k) c in floor-right (suc k) (digit (w .number .0) k) (t .0) (t .1) (digit-le (w .number .0) k)
@@ -79,7 +80,7 @@ rest-near w (suc k) h =
     by-abs (2 ^ suc k) (value roundBit low (w .number .1))
     (omega (arith, round-bit-law low (w .number .1), size-range (2 ^ k) low (low-range (w .number .0) k), pow-succ' 2 k))
 
-cut-near : (w : RoundBitWord) (d : ℕ) → w .number .1 ≤ 1 → natAbs ((roundBitValue (cutWord w d) *ℤ pos (2 ^ d)) -ℤ roundBitValue w) ≤ 2 ^ d
+pub cut-near : (w : RoundBitWord) (d : ℕ) → w .number .1 ≤ 1 → natAbs ((roundBitValue (cutWord w d) *ℤ pos (2 ^ d)) -ℤ roundBitValue w) ≤ 2 ^ d
 cut-near w d h =
     let x = roundBitValue (cutWord w d) *ℤ pos (2 ^ d) in
     let rest = roundBitValue (restWord w d) in
@@ -97,25 +98,32 @@ cut-none w e =
     rw (cut-passes w 0 g (narrower-passes (w .format) 0 (g .format) (rw (narrower-none (w .format)) (g .format))))
 
 -- the formats of the two words
-pub cut-format : (w : RoundBitWord) (d : ℕ) → cutWord w d .format ≡ narrower (w .format) d
+pub cut-by-format : (rule : ℤ → ℕ → ℕ) (w : RoundBitWord) (d : ℕ) → cutBy rule w d .format ≡ narrower (w .format) d
 unfolding cutBy
-cut-format w zero = sym (narrower-none (w .format))
-cut-format w (suc k) = refl
+cut-by-format rule w zero = sym (narrower-none (w .format))
+cut-by-format rule w (suc k) = refl
+
+pub cut-format : (w : RoundBitWord) (d : ℕ) → cutWord w d .format ≡ narrower (w .format) d
+cut-format w d = cut-by-format digit w d
 
 pub rest-format : (w : RoundBitWord) (d : ℕ) → restWord w d .format ≡ w .format
 unfolding restWord
 rest-format w zero = refl
 rest-format w (suc k) = refl
 
--- a cut after a cut is one cut
-cut-word-twice : (w : RoundBitWord) (a b : ℕ) → cutWord (cutWord w a) b ≡ cutWord w (a + b)
+-- a cut by at least 1 drops the round bit, so after a cut by any rule it is one cut; and a cut after a cut is one
+pub cut-by-then-cut : (rule : ℤ → ℕ → ℕ) (w : RoundBitWord) (d k : ℕ) → cutWord (cutBy rule w d) (suc k) ≡ cutWord w (d + suc k)
 unfolding cutBy
-cut-word-twice w zero b = ap (cutWord w) (sym (zero-add b))
-cut-word-twice w (suc j) zero = ap (cutWord w) (sym (add-zero (suc j)))
-cut-word-twice w (suc j) (suc k) =
+cut-by-then-cut rule w zero k = ap (cutWord w) (sym (zero-add (suc k)))
+cut-by-then-cut rule w (suc j) k =
     let x = w .number .0 in
     let depth : suc j + suc k ≡ suc (suc j + k) = omega arith in
     rw (floor-floor x (suc j) (suc k), digit-floor x (suc j) k, narrower-narrower (w .format) (suc j) (suc k), depth)
+
+pub cut-word-twice : (w : RoundBitWord) (a b : ℕ) → cutWord (cutWord w a) b ≡ cutWord w (a + b)
+unfolding cutBy
+cut-word-twice w a zero = ap (cutWord w) (sym (add-zero a))
+cut-word-twice w a (suc k) = cut-by-then-cut digit w a k
 
 pub cut-cut : (w : RoundBitWord) (a b : ℕ) → cutOf w (a + b) .outcome ≡ Done → (cutOf w a .outcome ≡ Done) × (cutOf (cutOf w a .word) b ≡ cutOf w (a + b))
 cut-cut w a b e =
@@ -132,7 +140,7 @@ cut-sign-check : (w : RoundBitWord) (d : ℕ) → roundBitCheck w ≡ Done → c
 unfolding signChangeWord
 cut-sign-check w d e = rw (sign-change-passed w e, e)
 
-cut-sign-word : (w : RoundBitWord) (d : ℕ) → cutWord (signChangeWord w) d ≡ signChangeWord (cutWord w d)
+pub cut-sign-word : (w : RoundBitWord) (d : ℕ) → cutWord (signChangeWord w) d ≡ signChangeWord (cutWord w d)
 unfolding cutBy signChangeWord
 cut-sign-word w zero = refl
 cut-sign-word w (suc k) = rw (floor-turned (w .number .0) (suc k), digit-turned (w .number .0) k)
