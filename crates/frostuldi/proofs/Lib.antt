@@ -3,3 +3,4 @@ pub mod Mapped
 pub mod Outcomes
 pub mod Chains
 pub mod Demand3
+pub mod Moves
