@@ -128,6 +128,8 @@ pub const SIGN_CHANGE: usize = row_of("frost_round_bit_sign_change");
 pub const CUT: usize = row_of("frost_round_bit_cut");
 pub const EVEN_CUT: usize = row_of("frost_round_bit_even_cut");
 pub const TO_PLAIN: usize = row_of("frost_round_bit_to_plain");
+pub const HALF_UNIT_SIGN_CHANGE: usize = row_of("frost_half_unit_sign_change");
+pub const HALF_UNIT_CUT: usize = row_of("frost_half_unit_cut");
 pub const FROM_PLAIN_EVEN: usize = row_of("frost_half_unit_from_plain_even");
 pub const OPEN: usize = row_of("frost_running_sum_open");
 pub const PUT: usize = row_of("frost_running_sum_put");
@@ -137,8 +139,11 @@ pub const EMPTY: usize = row_of("frost_running_sum_empty");
 /// The operations that are called elsewhere, the bank, those with lent buffers
 /// and the imports, and what is printed; their rows stand after those of the words.
 /// A file counts in a row of its version as well, whatever else is wrong with it.
+/// A run of moves is no function: it counts once, by the refusal that ended it.
 #[rustfmt::skip]
 const ELSEWHERE: &[Row] = &[
+    Row { name: "runs of moves, round-bit", refuses: OF_MOVES },
+    Row { name: "runs of moves, half-unit", refuses: OF_MOVES },
     Row { name: "frost_bank_output", refuses: OF_BANK },
     Row { name: "frost_digit_text_write", refuses: OF_TEXT },
     Row { name: "frost_digit_text_read", refuses: OF_TEXT_READ },
@@ -161,6 +166,8 @@ const ELSEWHERE: &[Row] = &[
     Row { name: "listing program, printed, version 2", refuses: OF_PRINTED },
 ];
 
+pub const ROUND_BIT_RUN: usize = row_of("runs of moves, round-bit");
+pub const HALF_UNIT_RUN: usize = row_of("runs of moves, half-unit");
 pub const BANK_OUTPUT: usize = row_of("frost_bank_output");
 pub const TEXT_WRITE: usize = row_of("frost_digit_text_write");
 pub const TEXT_READ: usize = row_of("frost_digit_text_read");

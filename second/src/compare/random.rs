@@ -39,6 +39,13 @@ impl Random {
         choices[self.below(choices.len() as u64) as usize]
     }
 
+    /// Every order as often as every other.
+    pub fn shuffle<T>(&mut self, list: &mut [T]) {
+        for place in (1..list.len()).rev() {
+            list.swap(place, self.below(place as u64 + 1) as usize);
+        }
+    }
+
     /// The room of a buffer to be lent: mostly enough, sometimes too short.
     pub fn room(&mut self, needed: u64) -> usize {
         let room = match self.below(6) {

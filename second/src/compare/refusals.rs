@@ -16,6 +16,9 @@ macro_rules! and_of_words {
 pub const OF_WORDS: &[u32] = and_of_words![];
 pub const OF_SUM: &[u32] = and_of_words![OPERANDS_DIFFER, ANSWER_DOES_NOT_FIT];
 pub const OF_CUT: &[u32] = and_of_words![DEPTH_OUTSIDE, ANSWER_UNIT_OUTSIDE];
+/// Of a run of cuts and sign changes: 1, 2 and 3 by its first move, since no move
+/// answers a wrong word, and 5 and 7 by a cut.
+pub const OF_MOVES: &[u32] = and_of_words![DEPTH_OUTSIDE, ANSWER_UNIT_OUTSIDE];
 pub const OF_WIDER: &[u32] = and_of_words![ANSWER_TOO_WIDE, ANSWER_UNIT_OUTSIDE];
 pub const OF_FIT: &[u32] = and_of_words![ANSWER_DOES_NOT_FIT];
 #[rustfmt::skip]

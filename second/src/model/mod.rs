@@ -15,6 +15,7 @@ pub mod kinds;
 pub mod layout;
 pub mod listing;
 pub mod long;
+pub mod moves;
 pub mod reading;
 pub mod round_bit;
 pub mod running_sum;
