@@ -138,7 +138,9 @@ static inline const char *frost_refusal_text(uint32_t refusal)
 }
 
 /* Round-bit words. All refuse 1, 2, 3 of each operand first; then as said. A cut by 1 or more drops the old round bit; an
- * even cut goes by the value, number + round, to the nearest count of new units, and halfway between two to the even one. */
+ * even cut goes by the value, number + round, to the nearest count of new units, and halfway between two to the even one.
+ * Cuts and sign changes may be mixed: they end in the word of one cut by all depths together, followed by a sign change if
+ * their number was odd, and some call is refused exactly if that cut is. So do those of half-unit words. */
 frost_round_bit_answer frost_round_bit_sign_change(frost_round_bit w);
 frost_round_bit_answer frost_round_bit_cut(frost_round_bit w, uint64_t depth);      /* 5, 7 */
 frost_round_bit_answer frost_round_bit_rest(frost_round_bit w, uint64_t depth);     /* 5, 7 */
