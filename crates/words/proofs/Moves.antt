@@ -6,20 +6,16 @@ use native.Mathlib.Omega.{arith}
 use mathlib.Core.Path.{_≡_, refl, sym, ap, _∙_, subst}
 use mathlib.Core.Bool.{Bool, true, false, not, cond}
 use mathlib.Core.List.{List, [], _∷_}
-use lib.Dec.{ltb}
-use lib.IntN.{ℤ, pos, negℤ, natAbs, _+ℤ_, _-ℤ_, _*ℤ_}
-use borrow.Author.Tests.{ltb-false, le-ltb}
-use Rattle.integers.proofs.Kit.{ints, neg-law}
-use Rattle.words.specs.Words.{badUnit}
-use Rattle.words.specs.Refusals.{refuseFor, after}
+use lib.IntN.{ℤ, pos, negℤ, negℤ-negℤ, natAbs, _+ℤ_, _-ℤ_, _*ℤ_}
+use borrow.Author.Tests.{le-ltb}
+use Rattle.words.specs.Refusals.{after}
 use Rattle.words.specs.Formats.{narrower, narrowerCheck}
 use Rattle.words.specs.Moves.{Move, cut, signChange, Moved, ranBy, depths, turns, isOdd, atOnce, Provided, apartFromSign, MixedBy, ClaimedBy}
-use Rattle.words.specs.declared.Cause.the-variants.{Depth, UnitPast}
 use Rattle.words.specs.declared.Format.{Format}
 use Rattle.words.specs.declared.Outcome.{Outcome}
 use Rattle.words.specs.declared.Outcome.the-variants.{Done, Refused}
-use Rattle.words.proofs.Laws.{RightFormat, passed, both-passed}
-use Rattle.words.proofs.Formats.{narrower-right, narrower-none, narrower-passes, narrower-first, narrower-then, narrower-narrower}
+use Rattle.words.proofs.Laws.{RightFormat}
+use Rattle.words.proofs.Formats.{unit-good, narrower-right, narrower-none, narrower-passes, narrower-first, narrower-then, narrower-narrower}
 
 abbrev pub moveDone : {W : Type 0} → W → Moved W
 moveDone w = record { outcome = Done; word = w }
@@ -48,15 +44,10 @@ pub provided-passes : (f : Format) (moves : List Move) → Provided f moves → 
 unfolding narrowerCheck
 provided-passes f moves p = rw (le-ltb (f .width - depths moves) 2 (p .digits), p .range)
 
-pub passed-provided : (f : Format) (moves : List Move) → narrowerCheck f (depths moves) ≡ Done → Provided f moves
-unfolding narrowerCheck
-passed-provided f moves e =
-    let d = depths moves in
-    let p = both-passed (refuseFor Depth (ltb (f .width - d) 2)) (refuseFor UnitPast (badUnit (f .unit +ℤ pos d))) e in
-    record {
-      digits = ltb-false (f .width - d) 2 (passed Depth (ltb (f .width - d) 2) (p .0));
-      range = passed UnitPast (badUnit (f .unit +ℤ pos d)) (p .1);
-    }
+pub passed-provided : (f : Format) (moves : List Move) → RightFormat f → narrowerCheck f (depths moves) ≡ Done → Provided f moves
+passed-provided f moves g e =
+    let r = narrower-right f (depths moves) g e in
+    record { digits = r .narrow; range = unit-good (f .unit +ℤ pos (depths moves)) (r .fine) (r .coarse) }
 
 -- ---- one sign change more turns "odd" over, and the one cut and the one sign change have the same depth and the same parity
 odd-more : (n : ℕ) → isOdd (1 + n) ≡ not (isOdd n)
@@ -140,7 +131,7 @@ module _ {W : Type 0} {moved : W → Move → Moved W} {value : W → ℤ} {form
   turned-form false w = refl
 
   turned-value : (c : Bool) (w : W) → check w ≡ Done → cond c (negℤ (value (turnedIf c w))) (value (turnedIf c w)) ≡ value w
-  turned-value true w e = ap negℤ (l .sign-value w e) ∙ omega (ints, neg-law (value w), neg-law (negℤ (value w)))
+  turned-value true w e = ap negℤ (l .sign-value w e) ∙ negℤ-negℤ (value w)
   turned-value false w e = refl
 
   module _ (w : W) (moves : List Move) (g : check w ≡ Done) (p : Provided (format w) moves) where
@@ -179,5 +170,5 @@ module _ {W : Type 0} {moved : W → Move → Moved W} {value : W → ℤ} {form
   run-claimed w moves g =
       record {
         provided = mixed w moves g;
-        otherwise = λ p e. p (passed-provided (format w) moves (run-provided w moves g e));
+        otherwise = λ p e. p (passed-provided (format w) moves (l .right-form w g) (run-provided w moves g e));
       }
