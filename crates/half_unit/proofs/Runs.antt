@@ -46,6 +46,12 @@ right =
     ∷ run nearEnd (cut 2 ∷ cut 2 ∷ []) (refused 7)
     ∷ run nearEnd (cut 4 ∷ []) (refused 5)
     ∷ run nearEnd (cut 1 ∷ signChange ∷ []) (flat 0 (negsuc 2) 0 4 (pos 127))
+    -- the narrowest width in the last unit, -2: turned 1, cut by nothing 1, turned -2, turned 1
+    ∷ run (halfUnitWord (negsuc 1) (format 2 (pos 127))) (signChange ∷ cut 0 ∷ signChange ∷ signChange ∷ []) (flat 0 (pos 1) 0 2 (pos 127))
+    -- -1, worth -1/2: by 1 it is -1, turned 0, by 1 again 0; at once by 2 it is -1, turned 0
+    ∷ run (at 4 (negsuc 0)) (cut 1 ∷ signChange ∷ cut 1 ∷ []) (flat 0 (pos 0) 0 2 (pos 2))
+    -- a depth of 2^64, which C cannot hand over
+    ∷ run (at 5 (pos 5)) (signChange ∷ cut 18446744073709551616 ∷ []) (refused 5)
     -- a word that is not right is refused by the first move
     ∷ run (at 5 (pos 16)) (signChange ∷ cut 1 ∷ []) (refused 3)
     ∷ []

@@ -1,6 +1,6 @@
 -- Runs of cuts and sign changes, computed from the definitions: ends worked out by hand from document 01, ends that a run must not have, how far an
 -- end may be off, and even cuts, which are not part of this. Assumes nothing.
--- Proved here: `ends-right`, `ends-wrong`, `just-half`, `not-strictly`, `cut-then-even`, `even-then-even`, `even-twice-at-4`.
+-- Proved here: `ends-right`, `ends-wrong`, `blank-goes-on`, `just-half`, `not-strictly`, `cut-then-even`, `even-then-even`, `even-twice-at-4`.
 use Prim.Native.Nat.{ℕ}
 use native.Mathlib.Omega.{arith}
 use mathlib.Core.Path.{_≡_, refl}
@@ -10,7 +10,7 @@ use lib.IntN.{ℤ, pos, negsuc, _-ℤ_}
 use Rattle.integers.specs.Numbers.{fitsWidth, floorBy, lowest, digit}
 use Rattle.integers.specs.Lists.{firstBad, all}
 use Rattle.words.specs.Words.{value}
-use Rattle.words.specs.Refusals.{formatCheck, wordCheck}
+use Rattle.words.specs.Refusals.{numberOf, formatCheck, wordCheck}
 use Rattle.words.specs.Formats.{format, narrowerCheck}
 use Rattle.words.specs.RoundBit.{roundBitWord, roundBitValue, roundBitCheck, roundBitDone}
 use Rattle.words.specs.Flat.{Flat, flat, laidFlat, sameFlat, roundBitAt as at, done, refused}
@@ -19,6 +19,7 @@ use Rattle.words.specs.declared.Format.{Format}
 use Rattle.words.specs.declared.Outcome.{Outcome}
 use Rattle.words.specs.declared.Outcome.the-variants.{Done}
 use Rattle.words.specs.declared.RoundBitWord.{RoundBitWord}
+use Rattle.words.proofs.Moves.{moveDone}
 use Rattle.words.proofs.Runs.{Run, run, endsIn, allRuns}
 use Rattle.round_bit.specs.declared.EvenCutAnswer.{EvenCutAnswer}
 use Rattle.round_bit.specs.Cuts.{signChangeWord, cutBy, cutOf, evenRoundBit, evenCutAnswer, evenCutOf}
@@ -51,6 +52,12 @@ right =
     ∷ run nearEnd (cut 2 ∷ cut 2 ∷ []) (refused 7)
     ∷ run nearEnd (cut 4 ∷ []) (refused 5)
     ∷ run nearEnd (cut 1 ∷ signChange ∷ []) (flat 0 (negsuc 2) 0 4 (pos 127))
+    -- the narrowest width in the last unit, (-2,1): turned (1,0), cut by nothing (1,0), turned (-2,1), turned (1,0)
+    ∷ run (roundBitWord (negsuc 1) 1 (format 2 (pos 127))) (signChange ∷ cut 0 ∷ signChange ∷ signChange ∷ []) (flat 0 (pos 1) 0 2 (pos 127))
+    -- the widest width in the first unit, (-1,1), worth 0: all its digits are 1, so by 61 it is (-1,1), turned (0,0)
+    ∷ run (roundBitWord (negsuc 0) 1 (format 63 (negsuc 126))) (cut 61 ∷ signChange ∷ []) (flat 0 (pos 0) 0 2 (negsuc 65))
+    -- a depth of 2^64, which C cannot hand over
+    ∷ run (at 5 (pos 5) 0) (signChange ∷ cut 18446744073709551616 ∷ []) (refused 5)
     -- a word that is not right is refused by the first move
     ∷ run (at 5 (pos 16) 0) (signChange ∷ cut 1 ∷ []) (refused 3)
     ∷ []
@@ -81,6 +88,12 @@ ends-right = refl
 ends-wrong : allRuns (λ r. not (ends r)) (run nearEnd [] (refused 0)) wrong ≡ true
 unfolding firstBad fitsWidth floorBy lowest digit formatCheck wordCheck narrowerCheck roundBitCheck ranBy signChangeWord cutBy
 ends-wrong = refl
+
+-- ---- why a run stops at a refusal: the blank word that a refused move answers is a right one, so whoever goes on from it is told done
+blank-goes-on : let refused = ran (at 4 (pos 5) 1) (cut 1 ∷ cut 2 ∷ []) in
+    (numberOf (refused .outcome) ≡ 5) × (moved (refused .word) signChange ≡ moveDone (roundBitWord (negsuc 0) 1 (format 2 (pos 0))))
+unfolding fitsWidth floorBy lowest digit formatCheck wordCheck narrowerCheck roundBitCheck ranBy signChangeWord cutBy
+blank-goes-on = (refl, refl)
 
 -- ---- (1,0) by 1 is (0,1): 1 unit came out as 2, which is just half of the new one. So "within" cannot be made strict
 just-half : farFrom roundBitValue (at 5 (pos 1) 0) (cut 1 ∷ []) (ran (at 5 (pos 1) 0) (cut 1 ∷ []) .word) ≡ halfItsUnit (cut 1 ∷ [])
