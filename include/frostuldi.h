@@ -139,8 +139,9 @@ static inline const char *frost_refusal_text(uint32_t refusal)
 
 /* Round-bit words. All refuse 1, 2, 3 of each operand first; then as said. A cut by 1 or more drops the old round bit; an
  * even cut goes by the value, number + round, to the nearest count of new units, and halfway between two to the even one.
- * Cuts and sign changes may be mixed: they end in the word of one cut by all depths together, followed by a sign change if
- * their number was odd, and some call is refused exactly if that cut is. So do those of half-unit words. */
+ * Cuts and sign changes may be mixed. As long as no call is refused they end in the word of one cut by all depths together,
+ * followed by a sign change if their number was odd; some call is refused exactly if that cut would be. Look at the refusal
+ * of every call: what is asked of the blank word that a refused one answers may well be done. */
 frost_round_bit_answer frost_round_bit_sign_change(frost_round_bit w);
 frost_round_bit_answer frost_round_bit_cut(frost_round_bit w, uint64_t depth);      /* 5, 7 */
 frost_round_bit_answer frost_round_bit_rest(frost_round_bit w, uint64_t depth);     /* 5, 7 */
@@ -152,7 +153,7 @@ frost_round_bit_answer frost_round_bit_product(frost_round_bit x, frost_round_bi
 frost_plain_answer frost_round_bit_to_plain(frost_round_bit w);                     /* 8 */
 frost_round_bit_answer frost_round_bit_from_plain(frost_plain w);
 
-/* Half-unit words. All refuse 1, 2, 3 of each operand first; then as said. */
+/* Half-unit words. All refuse 1, 2, 3 of each operand first; then as said. Cuts and sign changes may be mixed as above. */
 frost_half_unit_answer frost_half_unit_sign_change(frost_half_unit w);
 frost_half_unit_answer frost_half_unit_cut(frost_half_unit w, uint64_t depth);         /* 5, 7 */
 frost_half_unit_answer frost_half_unit_from_plain_up(frost_plain w, uint64_t depth);   /* 5, 7 */
