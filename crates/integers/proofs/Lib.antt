@@ -13,6 +13,7 @@ pub mod Tops
 pub mod Widened
 pub mod ExactlyOne
 pub mod Lists
+pub mod Each
 pub mod Found
 pub mod Bytes
 pub mod Parts

@@ -32,3 +32,8 @@ firstBad (suc n) good = cond (good zero) (suc (firstBad n (λ k. good (suc k))))
 -- the test holds at every index below n
 abbrev pub all : ℕ → (ℕ → Bool) → Bool
 all n good = eqb (firstBad n good) n
+
+-- it is so of each element
+unfoldable pub Each : {A : Type 0} → (A → Type 0) → List A → Type 0
+Each P [] = record {}
+Each P (x ∷ more) = P x × Each P more
