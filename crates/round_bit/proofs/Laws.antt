@@ -7,6 +7,8 @@ pub mod Widenings
 pub mod Added
 pub mod Sums
 pub mod SumWords
+pub mod Totals
+pub mod Groupings
 pub mod Conversions
 pub mod Multiplied
 pub mod Products

@@ -1,3 +1,4 @@
 pub mod Cuts
 pub mod Arithmetic
 pub mod Moves
+pub mod Groupings

@@ -1,8 +1,8 @@
 -- The sum of two numbers and their round bits, apart from any word. Assumes nothing.
--- Proved here: `added-value`, `added-bit`, `added-size`, `added-comm`, `added-counts`, `added-signs`, `added-self`.
+-- Proved here: `added-value`, `added-bit`, `added-size`, `added-comm`, `is`, `counted-one`, `counted-both`, `added-signs`, `added-self`.
 use Prim.Native.Nat.{ℕ, _+_, _-_, _≤_, _<_, min}
 use native.Mathlib.Omega.{arith}
-use mathlib.Core.Path.{_≡_}
+use mathlib.Core.Path.{_≡_, ap₂, _∙_}
 use lib.Bits.{bitAnd, bitOr, or-lt, or-add-and, and-le-l, and-le-r, and-comm, or-comm}
 use lib.IntN.{ℤ, pos, negsuc, _+ℤ_, +ℤ-comm, negℤ-+ℤ}
 use lib.Signed.{mag}
@@ -43,10 +43,21 @@ added-size m n i j h k b =
 pub added-comm : (m n : RoundBit) → added m n ≡ added n m
 added-comm m n = rw (+ℤ-comm (m .0) (n .0), and-comm (m .1) (n .1), or-comm (m .1) (n .1))
 
--- two sums of i and j round bits, less 1 where there is any, are one of i + j
-pub added-counts : (a b : ℤ) (i j : ℕ) →
-    added (record { 0 = a +ℤ pos (i - 1); 1 = min i 1 }) (record { 0 = b +ℤ pos (j - 1); 1 = min j 1 }) ≡ record
-    { 0 = (a +ℤ b) +ℤ pos (i + j - 1); 1 = min (i + j) 1 }
+-- what numbers that add up to a come to, with i round bits among them: a and one less than i, if there are any, and a round bit that says
+-- whether there are
+abbrev pub counted : ℤ → ℕ → RoundBit
+counted a i = record { 0 = a +ℤ pos (i - 1); 1 = min i 1 }
+
+pub record Counted (n : RoundBit) (a : ℤ) (i : ℕ) : Type 0 where
+  pub is : n ≡ counted a i
+
+pub counted-one : (n : RoundBit) → n .1 ≤ 1 → Counted n (n .0) (n .1)
+counted-one n h =
+    let number : n .0 ≡ n .0 +ℤ pos (n .1 - 1) = omega (ints, plus-law (n .0) (pos (n .1 - 1))) in
+    let bit : n .1 ≡ min (n .1) 1 = omega arith in
+    record { is = λ i. record { 0 = number i; 1 = bit i } }
+
+added-counts : (a b : ℤ) (i j : ℕ) → added (counted a i) (counted b j) ≡ counted (a +ℤ b) (i + j)
 added-counts a b i j =
     let x = a +ℤ pos (i - 1) in
     let y = b +ℤ pos (j - 1) in
@@ -68,6 +79,9 @@ added-counts a b i j =
     )
     in
     λ k. record { 0 = number k; 1 = bit k }
+
+pub counted-both : {m n : RoundBit} {a b : ℤ} {i j : ℕ} → Counted m a i → Counted n b j → Counted (added m n) (a +ℤ b) (i + j)
+counted-both {a = a} {b = b} {i = i} {j = j} x y = record { is = ap₂ added (x .is) (y .is) ∙ added-counts a b i j }
 
 -- -(m + n) and (-m) + (-n) have one value
 pub added-signs : (m n : RoundBit) → m .1 ≤ 1 → n .1 ≤ 1 →

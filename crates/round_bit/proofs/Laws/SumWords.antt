@@ -10,8 +10,7 @@ use Rattle.words.specs.RoundBit.{roundBitValue}
 use Rattle.words.specs.declared.RoundBit.{RoundBit}
 use Rattle.words.specs.declared.RoundBitWord.{RoundBitWord}
 use Rattle.round_bit.specs.Arithmetic.{added, sumWord}
-use Rattle.round_bit.proofs.Laws.Added.{added-value, added-bit, added-comm}
-use Rattle.round_bit.proofs.Laws.Sums.{one, both, sum-grouped}
+use Rattle.round_bit.proofs.Laws.Added.{added-value, added-bit, added-comm, counted-one, counted-both}
 
 pub sum-word-value : (x y : RoundBitWord) → roundBitValue (sumWord x y) ≡ roundBitValue x +ℤ roundBitValue y
 unfolding sumWord value
@@ -29,8 +28,11 @@ sum-word-comm x y e = λ i. record { number = added-comm (x .number) (y .number)
 
 pub added-assoc : (m n p : RoundBit) → m .1 ≤ 1 → n .1 ≤ 1 → p .1 ≤ 1 → added (added m n) p ≡ added m (added n p)
 added-assoc m n p g h k =
-    sum-grouped (both (both (one m) (one n)) (one p)) ((g, h), k)
-    ∙ rw (+ℤ-assoc (m .0) (n .0) (p .0), add-assoc (m .1) (n .1) (p .1)) (sym (sum-grouped (both (one m) (both (one n) (one p))) (g, (h, k))))
+    let x = counted-one m g in
+    let y = counted-one n h in
+    let z = counted-one p k in
+    counted-both (counted-both x y) z .is
+    ∙ rw (+ℤ-assoc (m .0) (n .0) (p .0), add-assoc (m .1) (n .1) (p .1)) (sym (counted-both x (counted-both y z) .is))
 
 pub sum-word-assoc : (x y z : RoundBitWord) → x .number .1 ≤ 1 → y .number .1 ≤ 1 → z .number .1 ≤ 1 → sumWord (sumWord x y) z ≡ sumWord x (sumWord y z)
 unfolding sumWord

@@ -1,43 +1,41 @@
 -- Sum and difference: what they do to values, and to each other. Assumes nothing.
--- Proved here: `sum-format`, `sum-done`, `sum-fits`, `sum-closed`, `difference-closed`, `sum-value`, `sum-comm`, `sum-zero`, `zero-sum`, `sum-grouped`,
--- `sum-sign-value`, `sum-sign-digits`, `difference-value`, `difference-self`.
-use Prim.Native.Nat.{ℕ, _+_, _-_, _^_, _≤_, _<_, min}
+-- Proved here: `sum-format`, `sum-done`, `sum-fits`, `sum-closed`, `difference-closed`, `sum-value`, `sum-comm`, `sum-zero`, `zero-sum`,
+-- `first`, `second`, `same`, `sum-check-tells`, `sum-check-asks`, `sum-sign-value`, `sum-sign-digits`, `difference-value`, `difference-self`.
+use Prim.Native.Nat.{ℕ, _-_, _^_, _≤_, _<_}
 use native.Mathlib.Omega.{arith}
 use mathlib.Core.Path.{_≡_, refl, sym, ap, _∙_}
 use lib.Bits.{or-zero-r, and-zero-r}
 use lib.Pow.{pow-pos}
 use lib.Signed.{mag}
 use lib.IntN.{ℤ, pos, negsuc, _+ℤ_, _*ℤ_, +ℤ-idr, -ℤ-+ℤ-cancel}
-use Rattle.integers.proofs.Kit.{ints, plus-law}
 use Rattle.integers.proofs.Times.{times-plus, times-neg}
 use Rattle.words.specs.Words.{value}
 use Rattle.words.specs.Formats.{format}
 use Rattle.words.specs.RoundBit.{roundBitWord, roundBitValue, roundBitCheck, roundBitRefused, roundBitDone, roundBitFitted, _andThen_}
 use Rattle.words.specs.declared.Format.{Format}
 use Rattle.words.specs.declared.Outcome.the-variants.{Done}
-use Rattle.words.specs.declared.RoundBit.{RoundBit}
 use Rattle.words.specs.declared.RoundBitWord.{RoundBitWord}
-use Rattle.words.proofs.Laws.{Right, right, word-right, RightRoundBit}
+use Rattle.words.proofs.Laws.{right, word-right, RightRoundBit}
 use Rattle.words.proofs.Rights.{nothing-right}
 use Rattle.words.proofs.Operands.{operands-right, right-operands, fit-passes, done-fits}
 use Rattle.round_bit.specs.Cuts.{signChangeWord}
 use Rattle.round_bit.specs.Arithmetic.{added, sumWord, sumCheck, sumOf, differenceOf}
 use Rattle.round_bit.proofs.Laws.Signs.{signs-value}
-use Rattle.round_bit.proofs.Laws.Added.{added-value, added-bit, added-comm, added-counts, added-signs, added-self}
+use Rattle.round_bit.proofs.Laws.Added.{added-value, added-bit, added-comm, added-signs, added-self}
 
 -- ---- what the check of a sum tells, and what it asks; the difference has the same
-record Operands (x y : RoundBitWord) : Type 0 where
-  first : Right (x .format) (x .number .0) (x .number .1)
-  second : Right (y .format) (y .number .0) (y .number .1)
-  same : x .format ≡ y .format
+pub record Operands (x y : RoundBitWord) : Type 0 where
+  pub first : RightRoundBit x
+  pub second : RightRoundBit y
+  pub same : x .format ≡ y .format
 
-sum-check-tells : (x y : RoundBitWord) → sumCheck x y ≡ Done → Operands x y
+pub sum-check-tells : (x y : RoundBitWord) → sumCheck x y ≡ Done → Operands x y
 unfolding roundBitCheck
 sum-check-tells x y e =
     let p = operands-right (x .format) (x .number .0) (x .number .1) (y .format) (y .number .0) (y .number .1) e in
     record { first = p .0; second = p .1; same = p .2 }
 
-sum-check-asks : (x y : RoundBitWord) → Operands x y → sumCheck x y ≡ Done
+pub sum-check-asks : (x y : RoundBitWord) → Operands x y → sumCheck x y ≡ Done
 unfolding roundBitCheck
 sum-check-asks x y p = right-operands (p .first) (p .second) (p .same)
 
@@ -121,35 +119,6 @@ sum-zero w e =
 
 pub zero-sum : (w : RoundBitWord) → roundBitCheck w ≡ Done → sumOf (roundBitWord (pos 0) 0 (w .format)) w ≡ roundBitDone w
 zero-sum w e = sym (sum-comm w (roundBitWord (pos 0) 0 (w .format)) (zero-passes w e)) ∙ sum-zero w e
-
--- ---- several words, however grouped: the number is the sum of the numbers plus the count of round bits, less 1 if there is any, and the
--- round bit says whether there is any
-pub data Grouping : Type 0 where
-  one : RoundBit → Grouping
-  both : Grouping → Grouping → Grouping
-
-abbrev pub grouped : Grouping → RoundBit
-grouped (one n) = n
-grouped (both s t) = added (grouped s) (grouped t)
-
-abbrev pub numbers : Grouping → ℤ
-numbers (one n) = n .0
-numbers (both s t) = numbers s +ℤ numbers t
-
-abbrev pub roundBits : Grouping → ℕ
-roundBits (one n) = n .1
-roundBits (both s t) = roundBits s + roundBits t
-
-abbrev pub Bits : Grouping → Type 0
-Bits (one n) = n .1 ≤ 1
-Bits (both s t) = Bits s × Bits t
-
-pub sum-grouped : (t : Grouping) → Bits t → grouped t ≡ record { 0 = numbers t +ℤ pos (roundBits t - 1); 1 = min (roundBits t) 1 }
-sum-grouped (one n) h =
-    let number : n .0 ≡ n .0 +ℤ pos (n .1 - 1) = omega (ints, plus-law (n .0) (pos (n .1 - 1))) in
-    let bit : n .1 ≡ min (n .1) 1 = omega arith in
-    λ i. record { 0 = number i; 1 = bit i }
-sum-grouped (both s t) h = rw (sum-grouped s (h .0), sum-grouped t (h .1)) (added-counts (numbers s) (numbers t) (roundBits s) (roundBits t))
 
 -- ---- -(x + y) and (-x) + (-y) have the same value, and the pair (0,0), (0,1) has not the same digits
 pub sum-sign-value : (x y : RoundBitWord) → sumOf x y .outcome ≡ Done →
