@@ -22,7 +22,7 @@ extern "C" {
 #endif
 
 /* The version that this header declares, as 10000 * major + 100 * minor + patch. frost_version() tells the archive's. */
-#define FROST_VERSION 30000
+#define FROST_VERSION 30100
 
 /* What `refusal` says. frost_refusal_text() has each in words. */
 enum frost_refusal {
@@ -49,7 +49,7 @@ enum frost_refusal {
 enum frost_kind { FROST_KIND_PLAIN = 0, FROST_KIND_ROUND_BIT = 1, FROST_KIND_HALF_UNIT = 2 };
 
 /* Limits: widths and units of every word, widths and records of a file, widths of a reading, and what a buffer must
- * hold for the longest digit text, file and listing. */
+ * hold for the longest digit text, file and listing. A block sum has the widths of a file. */
 enum frost_limit {
     FROST_LEAST_WIDTH = 2,
     FROST_MOST_WIDTH = 63,
@@ -98,6 +98,9 @@ typedef struct { uint64_t bytes; uint32_t refusal; } frost_written;
 typedef struct { float lowest, highest, first; } frost_reading;
 typedef struct { frost_reading reading; uint32_t refusal; } frost_reading_answer;
 
+/* `index` is that of the first record which a 3 is for, counted from 0; 0 with every other answer, done too. */
+typedef struct { frost_round_bit word; uint64_t index; uint32_t refusal; } frost_block_sum_answer;
+
 /* The archive's own version: FROST_VERSION of the header that belongs to it. */
 uint32_t frost_version(void);
 
@@ -106,7 +109,8 @@ static inline const char *frost_refusal_text(uint32_t refusal)
 {
     switch (refusal) {
     case FROST_DONE: return "done";
-    case FROST_REFUSED_WIDTH: return "a width is outside 2 to 63 (2 to 48 in a file, 2 to 24 for a reading)";
+    case FROST_REFUSED_WIDTH:
+        return "a width is outside 2 to 63 (2 to 48 in a file and for a block sum, 2 to 24 for a reading)";
     case FROST_REFUSED_UNIT: return "a unit exponent is outside -127 to 127";
     case FROST_REFUSED_NUMBER:
         return "a number is outside its width, or a round bit is not 0 or 1, or a round byte in a block of kind 0 or 2 is "
@@ -121,14 +125,15 @@ static inline const char *frost_refusal_text(uint32_t refusal)
     case FROST_REFUSED_WIDTH_PAST: return "the answer's width would pass 63";
     case FROST_REFUSED_UNIT_PAST:
         return "the answer's unit exponent, or that of the products of a filter bank's channel, would leave -127 to 127";
-    case FROST_REFUSED_NUMBER_PAST: return "the answer's number does not fit its width";
+    case FROST_REFUSED_NUMBER_PAST:
+        return "the answer's number, or that of any step of a block sum, does not fit its width";
     case FROST_REFUSED_DIGIT_TEXT:
         return "a digit text has two nonzero digits of one sign with nothing or only zeros between them";
     case FROST_REFUSED_BUFFER: return "a lent buffer is too short for what would be written";
     case FROST_REFUSED_MARK: return "a file's mark or version is wrong";
     case FROST_REFUSED_FORM:
-        return "a file's length, kind or count is wrong; or a reading's kind is, or its numbers and round bits are of unlike "
-               "lengths";
+        return "a file's length, kind or count is wrong; or a reading's kind is, or the numbers and round bits of a reading or "
+               "a block sum are of unlike lengths";
     case FROST_REFUSED_BYTE: return "a digit text has a byte that is not `+`, `0` or `-`";
     case FROST_REFUSED_RUN: return "a reading's run of records is empty or passes the end of the block";
     case FROST_REFUSED_NOT_FINITE: return "a binary64 sample is an infinity or a not-a-number";
@@ -228,6 +233,18 @@ frost_written frost_file_write(uint32_t kind, uint32_t width, int32_t unit, cons
  * A refusal answers three positive zeros. */
 frost_reading_answer frost_reading_of_run(uint32_t kind, uint32_t width, const int64_t *numbers, size_t numbers_length,
                                           const uint8_t *rounds, size_t rounds_length, size_t first, size_t length);
+
+/* The sum of a block of round-bit records, all of this width and unit, and as many as there are. The block is split in
+ * the middle, the smaller half first where its length is odd; each half is summed in its turn in the same way, and then
+ * the two sums are added. A block without records gives (0,0), a block of one record that record. Where no step of it is
+ * refused, the records give the same word in any other grouping or order in which none is. It refuses, in this order,
+ *   12  unlike lengths of numbers and round bits;
+ *   1   a width outside 2 to 48;
+ *   2   a unit outside its range;
+ *   3   a record: every one is looked at before anything is added;
+ *   8   a step whose number does not fit the width, also where the whole sum's would. */
+frost_block_sum_answer frost_block_sum(uint32_t width, int32_t unit, const int64_t *numbers, size_t numbers_length,
+                                       const uint8_t *rounds, size_t rounds_length);
 
 /* The listing of a file as text. A refused file is text, `refused N`; the call itself refuses 10 alone. No listing is
  * longer than FROST_LONGEST_LISTING bytes; in less room than that the text is counted before it is written, which takes longer. */

@@ -40,6 +40,7 @@ use Rattle.frostuldi.proofs.frost_digit_text_read.Reads as frost-digit-
 use Rattle.frostuldi.proofs.frost_file_read.Reads as frost-file-read
 use Rattle.frostuldi.proofs.frost_file_write.Reads as frost-file-write
 use Rattle.frostuldi.proofs.frost_reading_of_run.Reads as frost-reading-of-run
+use Rattle.frostuldi.proofs.frost_block_sum.Reads as frost-block-sum
 use Rattle.frostuldi.proofs.frost_listing_text.Reads as frost-listing-text
 
 frost-version-one : OneResult (frost-version.Post tt)
@@ -160,6 +161,9 @@ frost-reading-of-run-one κs a x y e f p q = p ∙ sym q
 frost-reading-of-run-bits : (κs : Lfts 2) (a : _) (x : FrostReadingAnswer) (e : _) → frost-reading-of-run.Post κs a x e →
     OneBits (x .reading .lowest) × OneBits (x .reading .highest) × OneBits (x .reading .first)
 frost-reading-of-run-bits κs a x e p = rw p (answer-bits _ _ _)
+
+frost-block-sum-one : (κs : Lfts 2) → OneResult (frost-block-sum.Post κs)
+frost-block-sum-one κs a x y e f p q = p ∙ sym q
 
 frost-listing-text-one : (κs : Lfts 2) → OneResult (frost-listing-text.Post κs)
 frost-listing-text-one κs a x y e f p q = p .0 ∙ sym (q .0)

@@ -17,6 +17,7 @@ use Rattle.digit_text.specs.declared.ReadAnswer.{ReadAnswer as TextAnswer}
 use Rattle.block_file.specs.declared.ReadAnswer.{ReadAnswer}
 use Rattle.reading.specs.declared.Reading.{Reading}
 use Rattle.reading.specs.declared.ReadingAnswer.{ReadingAnswer}
+use Rattle.block_sum.specs.declared.BlockSumAnswer.{BlockSumAnswer}
 use Rattle.frostuldi.specs.declared.FrostPlain.{FrostPlain}
 use Rattle.frostuldi.specs.declared.FrostHalfUnit.{FrostHalfUnit}
 use Rattle.frostuldi.specs.declared.FrostRoundBit.{FrostRoundBit}
@@ -33,10 +34,11 @@ use Rattle.frostuldi.specs.declared.FrostFileHead.{FrostFileHead}
 use Rattle.frostuldi.specs.declared.FrostWritten.{FrostWritten}
 use Rattle.frostuldi.specs.declared.FrostReading.{FrostReading}
 use Rattle.frostuldi.specs.declared.FrostReadingAnswer.{FrostReadingAnswer}
+use Rattle.frostuldi.specs.declared.FrostBlockSumAnswer.{FrostBlockSumAnswer}
 
 -- which library this is: 10000 * major + 100 * minor + patch
 abbrev pub version : ℕ
-version = 30000
+version = 30100
 
 -- what comes in
 abbrev pub plainIn : FrostPlain → PlainWord
@@ -119,3 +121,10 @@ flatReading n = record { lowest = n .lowest; highest = n .highest; first = n .fi
 
 abbrev pub readingOut : ReadingAnswer → FrostReadingAnswer
 readingOut a = record { reading = flatReading (a .reading); refusal = numberOf (a .outcome) }
+
+abbrev pub blockSumOut : BlockSumAnswer → FrostBlockSumAnswer
+blockSumOut a = record {
+  word = flatRoundBit (a .word);
+  index = a .index;
+  refusal = numberOf (a .outcome);
+}

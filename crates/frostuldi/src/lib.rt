@@ -26,9 +26,11 @@ ghost use Rattle.block_file.specs.Layout.{block};
 ghost use Rattle.block_file.specs.Reading.{readOf as fileReadOf, numbersAfter, roundsAfter};
 ghost use Rattle.block_file.specs.Writing.{writeOf as fileWriteOf, fileAfter};
 ghost use Rattle.reading.specs.Readings.{readingOfRun};
+ghost use Rattle.block_sum.specs.Sums.{blockSumOf};
 ghost use Rattle.listing_text.specs.Listing.{listOf, textAfter};
-ghost use Rattle.frostuldi.specs.Boundary.{version, plainIn, halfUnitIn, roundBitIn, sumIn, tapsIn, windowIn, bankIn, flatPlain, flatHalfUnit, flatRoundBit, plainOut, halfUnitOut, roundBitOut, sumOut, textOut, headOut, writtenOut, readingOut};
+ghost use Rattle.frostuldi.specs.Boundary.{version, plainIn, halfUnitIn, roundBitIn, sumIn, tapsIn, windowIn, bankIn, flatPlain, flatHalfUnit, flatRoundBit, plainOut, halfUnitOut, roundBitOut, sumOut, textOut, headOut, writtenOut, readingOut, blockSumOut};
 use block_file::ReadAnswer;
+use block_sum::BlockSumAnswer;
 use digit_text::ReadAnswer as TextAnswer;
 use reading::ReadingAnswer;
 use running_sum::RunningSum;
@@ -147,6 +149,13 @@ pub struct FrostReading {
 #[repr(C)]
 pub struct FrostReadingAnswer {
     pub reading: FrostReading,
+    pub refusal: u32,
+}
+
+#[repr(C)]
+pub struct FrostBlockSumAnswer {
+    pub word: FrostRoundBit,
+    pub index: u64,
     pub refusal: u32,
 }
 
@@ -370,6 +379,18 @@ fn reading_out(a: ReadingAnswer) -> FrostReadingAnswer
             highest: n.highest,
             first: n.first,
         },
+        refusal: words::number_of(o),
+    }
+}
+
+fn block_sum_out(a: BlockSumAnswer) -> FrostBlockSumAnswer
+    ensures { λ r. ⌜ r ≡ blockSumOut a ⌝ }
+{
+    let word = flat_round_bit(a.word);
+    let o = a.outcome;
+    FrostBlockSumAnswer {
+        word: word,
+        index: a.index,
         refusal: words::number_of(o),
     }
 }
@@ -648,10 +669,10 @@ pub extern "C" fn frost_running_sum_empty(s: FrostRunningSum) -> FrostSumAnswer
 pub extern "C" fn frost_version() -> u32
     ensures { λ r. ⌜ r ≡ version ⌝ }
 {
-    30000
+    30100
 }
 
-// Digit texts, block files, readings and listings.
+// Digit texts, block files, readings, block sums and listings.
 
 #[no_mangle]
 pub extern "C" fn frost_digit_text_write(w: FrostRoundBit, text: &mut [u8]) -> FrostWritten
@@ -712,6 +733,18 @@ pub extern "C" fn frost_reading_of_run(
     ensures { λ r. ⌜ r ≡ readingOut (readingOfRun (block kind (format width (pos 0)) (now (numbers .entry)) (now (rounds .entry))) first length) ⌝ }
 {
     reading_out(reading::of_run(kind, width, numbers, rounds, first, length))
+}
+
+#[no_mangle]
+pub extern "C" fn frost_block_sum(
+    width: u32,
+    unit: i32,
+    numbers: &[i64],
+    rounds: &[u8],
+) -> FrostBlockSumAnswer
+    ensures { λ r. ⌜ r ≡ blockSumOut (blockSumOf (format width unit) (now (numbers .entry)) (now (rounds .entry))) ⌝ }
+{
+    block_sum_out(block_sum::block_sum(width, unit, numbers, rounds))
 }
 
 #[no_mangle]
