@@ -3,20 +3,22 @@
 
 use super::bank_case::BankCase;
 use super::binary64_case::Binary64Case;
+use super::block_sum_case::BlockSumCase;
 use super::case::Case;
 use super::reading_case::ReadingCase;
 use std::cell::Cell;
 use std::sync::atomic::{AtomicUsize, Ordering};
 
-/// The operation, its operands if they are words, a bank, a reading's or a sample,
-/// and the bytes of its text or file if it has one; an address is good for as long
-/// as the call lasts.
+/// The operation, its operands if they are words, a bank, a reading's, a block to
+/// add or a sample, and the bytes of its text or file if it has one; an address is
+/// good for as long as the call lasts.
 #[derive(Clone, Copy)]
 struct Call {
     name: &'static str,
     case: Option<Case>,
     bank: *const BankCase,
     reading: *const ReadingCase<'static>,
+    block: *const BlockSumCase<'static>,
     sample: Option<Binary64Case>,
     bytes: *const u8,
     length: usize,
@@ -27,6 +29,7 @@ const NO_CALL: Call = Call {
     case: None,
     bank: std::ptr::null(),
     reading: std::ptr::null(),
+    block: std::ptr::null(),
     sample: None,
     bytes: std::ptr::null(),
     length: 0,
@@ -92,6 +95,17 @@ pub fn about_to_call_reading(name: &'static str, reading: &ReadingCase) {
     LAST.with(|last| last.set(call));
 }
 
+/// So are a block's.
+pub fn about_to_call_block_sum(name: &'static str, block: &BlockSumCase) {
+    let block: *const BlockSumCase = block;
+    let call = Call {
+        name,
+        block: block.cast(),
+        ..NO_CALL
+    };
+    LAST.with(|last| last.set(call));
+}
+
 pub fn about_to_call_import(name: &'static str, sample: &Binary64Case) {
     let call = Call {
         name,
@@ -130,6 +144,9 @@ extern "C" fn fell(number: i32) {
     }
     if !call.reading.is_null() {
         println!("  case:    {}", unsafe { &*call.reading }.describe());
+    }
+    if !call.block.is_null() {
+        println!("  case:    {}", unsafe { &*call.block }.describe());
     }
     if let Some(sample) = call.sample {
         println!("  case:    {}", sample.describe());

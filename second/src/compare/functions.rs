@@ -70,6 +70,15 @@ extern "C" {
         length: usize,
     ) -> FrostReadingAnswer;
 
+    pub fn frost_block_sum(
+        width: u32,
+        unit: i32,
+        numbers: *const i64,
+        numbers_length: usize,
+        rounds: *const u8,
+        rounds_length: usize,
+    ) -> FrostBlockSumAnswer;
+
     pub fn frost_plain_from_binary64(bits: u64, width: u32, unit: i32) -> FrostPlainAnswer;
     pub fn frost_round_bit_from_binary64(bits: u64, width: u32, unit: i32) -> FrostRoundBitAnswer;
     pub fn frost_half_unit_from_binary64(bits: u64, width: u32, unit: i32) -> FrostHalfUnitAnswer;

@@ -5,6 +5,7 @@
 pub use super::functions::*;
 use crate::model::bank::{Bank, Row, CHANNELS, TAPS};
 use crate::model::block_file::Head;
+use crate::model::block_sum::BlockSumAnswer;
 use crate::model::digit_text::TextAnswer;
 use crate::model::reading::{Reading, ReadingAnswer};
 use crate::model::running_sum::{RunningSum, SumAnswer};
@@ -318,6 +319,34 @@ impl OfModel for FrostReadingAnswer {
     fn model(self) -> ReadingAnswer {
         ReadingAnswer {
             reading: self.reading.model(),
+            refusal: self.refusal,
+        }
+    }
+}
+
+#[repr(C)]
+#[derive(Clone, Copy)]
+pub struct FrostBlockSumAnswer {
+    pub word: FrostRoundBit,
+    pub index: u64,
+    pub refusal: u32,
+}
+
+impl OfModel for FrostBlockSumAnswer {
+    type Model = BlockSumAnswer;
+
+    fn of(model: BlockSumAnswer) -> FrostBlockSumAnswer {
+        FrostBlockSumAnswer {
+            word: OfModel::of(model.word),
+            index: model.index as u64,
+            refusal: model.refusal,
+        }
+    }
+
+    fn model(self) -> BlockSumAnswer {
+        BlockSumAnswer {
+            word: self.word.model(),
+            index: self.index as i128,
             refusal: self.refusal,
         }
     }

@@ -127,6 +127,7 @@ pub const OPERATIONS: &[Operation] = &[
 pub const SIGN_CHANGE: usize = row_of("frost_round_bit_sign_change");
 pub const CUT: usize = row_of("frost_round_bit_cut");
 pub const EVEN_CUT: usize = row_of("frost_round_bit_even_cut");
+pub const SUM: usize = row_of("frost_round_bit_sum");
 pub const TO_PLAIN: usize = row_of("frost_round_bit_to_plain");
 pub const HALF_UNIT_SIGN_CHANGE: usize = row_of("frost_half_unit_sign_change");
 pub const HALF_UNIT_CUT: usize = row_of("frost_half_unit_cut");
@@ -154,6 +155,7 @@ const ELSEWHERE: &[Row] = &[
     Row { name: "frost_file_write, widths of version 1", refuses: OF_FILE_OF_A_WIDTH },
     Row { name: "frost_file_write, widths of version 2", refuses: OF_FILE_OF_A_WIDTH },
     Row { name: "frost_reading_of_run", refuses: OF_READING },
+    Row { name: "frost_block_sum", refuses: OF_BLOCK_SUM },
     Row { name: "frost_plain_from_binary64", refuses: OF_IMPORT },
     Row { name: "frost_round_bit_from_binary64", refuses: OF_IMPORT },
     Row { name: "frost_half_unit_from_binary64", refuses: OF_IMPORT },
@@ -174,6 +176,7 @@ pub const TEXT_READ: usize = row_of("frost_digit_text_read");
 pub const FILE_READ: usize = row_of("frost_file_read");
 pub const FILE_WRITE: usize = row_of("frost_file_write");
 pub const READING_OF_RUN: usize = row_of("frost_reading_of_run");
+pub const BLOCK_SUM: usize = row_of("frost_block_sum");
 pub const PLAIN_IMPORT: usize = row_of("frost_plain_from_binary64");
 pub const ROUND_BIT_IMPORT: usize = row_of("frost_round_bit_from_binary64");
 pub const HALF_UNIT_IMPORT: usize = row_of("frost_half_unit_from_binary64");

@@ -1,5 +1,6 @@
-//! Records to lend for readings: good ones, and what can be wrong with one.
+//! Records to lend for readings and block sums: good ones, and what can be wrong with one.
 
+use super::block_sum_case::BlockSumCase;
 use super::blocks::good_record;
 use super::lent::Lent;
 use super::random::Random;
@@ -61,6 +62,16 @@ impl Records {
             rounds: self.rounds.content(),
             first: 0,
             length: self.numbers.room(),
+        }
+    }
+
+    /// The block of them all, to be added.
+    pub fn block(&self, width: u32, unit: i32) -> BlockSumCase<'_> {
+        BlockSumCase {
+            width,
+            unit,
+            numbers: self.numbers.content(),
+            rounds: self.rounds.content(),
         }
     }
 }

@@ -46,6 +46,8 @@ pub const OF_FILE_OF_A_WIDTH: &[u32] =
 #[rustfmt::skip]
 pub const OF_READING: &[u32] =
     &[WIDTH_OUTSIDE, NUMBER_OUTSIDE, LENGTH_KIND_OR_COUNT_WRONG, RUN_WRONG];
+/// A block's records are of one format, so no 4; its sum is no wider, so no 6.
+pub const OF_BLOCK_SUM: &[u32] = and_of_words![ANSWER_DOES_NOT_FIT, LENGTH_KIND_OR_COUNT_WRONG];
 /// An import takes bits in place of a number, so no 3, and is asked for its width
 /// and unit, so no 6 and no 7.
 #[rustfmt::skip]

@@ -7,6 +7,7 @@ pub mod bank;
 pub mod binary32;
 pub mod binary64;
 pub mod block_file;
+pub mod block_sum;
 pub mod causes;
 pub mod digit_text;
 pub mod digits;

@@ -123,6 +123,16 @@ pub fn sum(first: RoundBit, second: RoundBit) -> Answer<RoundBit> {
     })
 }
 
+/// The neutral word (0,0) of a format.
+pub fn neutral(width: i128, unit: i128) -> RoundBit {
+    RoundBit {
+        number: 0,
+        round: 0,
+        width,
+        unit,
+    }
+}
+
 pub fn difference(first: RoundBit, second: RoundBit) -> Answer<RoundBit> {
     // A word with causes 1 to 3 cannot be sign-changed; the sum names them.
     match second.causes() {

@@ -2,7 +2,7 @@
 //! Written from document 01 alone; it shares nothing with crates/.
 
 use super::causes::*;
-use super::round_bit::{cause_of_difference, cut, rest, sum};
+use super::round_bit::{cause_of_difference, cut, neutral, rest, sum};
 use super::words::*;
 
 #[derive(Clone, Copy, Debug, PartialEq, Eq)]
@@ -67,18 +67,8 @@ fn refused(sum: RunningSum, refusal: u32) -> SumAnswer {
     }
 }
 
-/// The word (0,0) of a format.
-fn nothing(width: i128, unit: i128) -> RoundBit {
-    RoundBit {
-        number: 0,
-        round: 0,
-        width,
-        unit,
-    }
-}
-
 pub fn open(width: i128, unit: i128, depth: i128) -> SumAnswer {
-    let running = RunningSum::made(nothing(width, unit), depth);
+    let running = RunningSum::made(neutral(width, unit), depth);
     match running.causes() {
         DONE => done(running, RoundBit::blank()),
         refusal => refused(RunningSum::made(RoundBit::blank(), 0), refusal),
@@ -119,6 +109,6 @@ pub fn empty(running: RunningSum) -> SumAnswer {
     if refusal != DONE {
         return refused(running, refusal);
     }
-    let kept = nothing(running.kept.width, running.kept.unit);
+    let kept = neutral(running.kept.width, running.kept.unit);
     done(running.keeping(kept), running.kept)
 }
