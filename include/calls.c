@@ -235,6 +235,29 @@ static void desk_readings(void)
                       -16777215, -16777215, -16777215, FROST_DONE));
 }
 
+/* Blocks of width 2, -2 to 1: 1, 1, -1 fits in halves, of which the smaller is first, and -1, 1, 1 does not. */
+static int summed(frost_block_sum_answer a, frost_round_bit w, uint64_t index, uint32_t refusal)
+{
+    return same(a.word, w) && a.index == index && a.refusal == refusal;
+}
+static void block_sums(void)
+{
+    static const int64_t fits[] = {1, 1, -1}, past[] = {-1, 1, 1}, bad[] = {0, 2, 0, -3};
+    static const int64_t ends[] = {-1, (INT64_C(1) << 47) - 1};
+    static const uint8_t zeros[4], ones[] = {1, 1, 1, 1}, two[] = {0, 0, 2};
+    HOLDS(summed(frost_block_sum(2, 0, fits, 3, zeros, 3), rb(1, 0, 2, 0), 0, FROST_DONE));
+    HOLDS(summed(frost_block_sum(2, 0, past, 3, zeros, 3), rb(0, 0, 2, 0), 0, FROST_REFUSED_NUMBER_PAST));
+    HOLDS(summed(frost_block_sum(3, 7, past, 3, ones, 3), rb(3, 1, 3, 7), 0, FROST_DONE));
+    HOLDS(summed(frost_block_sum(FROST_MOST_FILE_WIDTH, -127, fits, 0, zeros, 0), rb(0, 0, 48, -127), 0, FROST_DONE));
+    HOLDS(summed(frost_block_sum(FROST_MOST_FILE_WIDTH, 0, ends, 2, ones, 2), rb(ends[1], 1, 48, 0), 0, FROST_DONE));
+    HOLDS(summed(frost_block_sum(47, 0, ends, 2, ones, 2), rb(0, 0, 2, 0), 1, FROST_REFUSED_NUMBER));
+    HOLDS(summed(frost_block_sum(2, 0, bad, 4, zeros, 4), rb(0, 0, 2, 0), 1, FROST_REFUSED_NUMBER));
+    HOLDS(summed(frost_block_sum(2, 0, past, 3, two, 3), rb(0, 0, 2, 0), 2, FROST_REFUSED_NUMBER));
+    HOLDS(summed(frost_block_sum(2, 128, bad, 4, zeros, 4), rb(0, 0, 2, 0), 0, FROST_REFUSED_UNIT));
+    HOLDS(summed(frost_block_sum(49, 128, bad, 4, zeros, 4), rb(0, 0, 2, 0), 0, FROST_REFUSED_WIDTH));
+    HOLDS(summed(frost_block_sum(1, 128, bad, 4, zeros, 3), rb(0, 0, 2, 0), 0, FROST_REFUSED_FORM));
+}
+
 /* Samples: 2.5 is a tie of 2 and 3, and 3 one of the half-odd counts 2.5 and 3.5, whose numbers are 2 and 3. */
 static void samples(void)
 {
@@ -295,6 +318,7 @@ int main(void)
     longer_words();
     places();
     desk_readings();
+    block_sums();
     samples();
     limits();
     return failed;

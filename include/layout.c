@@ -59,3 +59,7 @@ AT(frost_reading, first, 8);
 SIZE(frost_reading_answer, 16);
 AT(frost_reading_answer, reading, 0);
 AT(frost_reading_answer, refusal, 12);
+SIZE(frost_block_sum_answer, 40);
+AT(frost_block_sum_answer, word, 0);
+AT(frost_block_sum_answer, index, 24);
+AT(frost_block_sum_answer, refusal, 32);

@@ -1,5 +1,6 @@
 /* What the header says of the stack: no call needs more than 64 KiB of it. Calls with buffers, and some without, run on
- * a thread whose stack was painted before; what is no longer painted was used, by the thread's own start and end too. */
+ * a thread whose stack was painted before; what is no longer painted was used, by the thread's own start and end too.
+ * And what is proved of a block sum: how many of its calls stand within each other. */
 #define _GNU_SOURCE
 #include <pthread.h>
 #include <stdio.h>
@@ -8,9 +9,12 @@
 
 #include "frostuldi.h"
 
-enum { ALLOWED = 65536, PAINTED = 16 * ALLOWED, PAINT = 0xA5, COUNT = FROST_MOST_RECORDS };
+enum { ALLOWED = 65536, PAINTED = 16 * ALLOWED, PAINT = 0xA5, COUNT = FROST_MOST_RECORDS, MANY = 1 << 20 };
 
 static int64_t numbers[COUNT];
+static int64_t many_numbers[MANY];
+static uint8_t many_rounds[MANY];
+static size_t records = MANY;
 static uint8_t rounds[COUNT], file[FROST_LONGEST_FILE], text[FROST_LONGEST_LISTING];
 static const frost_round_bit word = {-1, 32, 0, 1};
 static const frost_running_sum sum = {{0, 32, 0, 0}, 30};
@@ -28,6 +32,10 @@ static uint32_t read_file(void) { return frost_file_read(file, sizeof file, numb
 static uint32_t read_run(void)
 {
     return frost_reading_of_run(1, 24, numbers, COUNT, rounds, COUNT, 1, COUNT - 1).refusal;
+}
+static uint32_t sum_block(void)
+{
+    return frost_block_sum(FROST_MOST_FILE_WIDTH, 0, many_numbers, records, many_rounds, records).refusal;
 }
 static uint32_t list(void) { return frost_listing_text(file, sizeof file, text, sizeof text).refusal; }
 static uint32_t list_counted(void) { return frost_listing_text(file, sizeof file, text, 200000).refusal; }
@@ -49,6 +57,7 @@ static struct call {
     {"frost_file_write", write_file, 0, 0},
     {"frost_file_read", read_file, 0, 0},
     {"frost_reading_of_run", read_run, 0, 0},
+    {"frost_block_sum", sum_block, 0, 0},
     {"frost_listing_text", list, 0, 0},
     {"frost_listing_text, counted first", list_counted, 0, 0},
     {"frost_listing_text, refused", list_in_no_room, 10, 0},
@@ -84,6 +93,32 @@ static size_t used(uint8_t *stack, struct call *c)
     return PAINTED - left;
 }
 
+static size_t used_by_sum(uint8_t *stack, size_t count)
+{
+    struct call c = {"frost_block_sum", sum_block, 0, 0};
+    records = count;
+    return used(stack, &c);
+}
+
+/* One record is one call, and two are a call more: so many bytes, and as many for each call within it. A block of 2^k
+ * records and fewer than 2^(k+1) may have k + 2 of them, and an empty one 1. */
+static const struct { size_t count, calls; } sums[] = {{0, 1}, {3, 3}, {4, 4}, {1000, 11}, {MANY - 1, 21}, {MANY, 22}};
+enum { SUMS = sizeof sums / sizeof *sums };
+
+static int too_deep(uint8_t *stack)
+{
+    size_t one = used_by_sum(stack, 1), call = used_by_sum(stack, 2) - one;
+    int found = 0;
+    for (size_t i = 0; i < SUMS; i++) {
+        size_t bytes = used_by_sum(stack, sums[i].count);
+        if (call == 0 || call > ALLOWED || bytes > one + call * (sums[i].calls - 1)) {
+            printf("stack: a sum of %zu records: %zu bytes, of one %zu, a call %zu\n", sums[i].count, bytes, one, call);
+            found++;
+        }
+    }
+    return found;
+}
+
 int main(void)
 {
     /* Below the stack lies as much again that nothing may touch. */
@@ -98,6 +133,7 @@ int main(void)
             failed++;
         }
     }
-    printf("%d passed, %d failed\n", CALLS - failed, failed);
+    failed += too_deep(mapped + PAINTED);
+    printf("%d passed, %d failed\n", CALLS + SUMS - failed, failed);
     return failed != 0;
 }

@@ -4,3 +4,4 @@ pub mod Outcomes
 pub mod Chains
 pub mod Demand3
 pub mod Moves
+pub mod BlockSums

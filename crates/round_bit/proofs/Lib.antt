@@ -4,5 +4,6 @@ pub mod Checks
 pub mod Magnitudes
 pub mod Laws
 pub mod Links
+pub mod SumLinks
 mod Wrong
 mod Unique
