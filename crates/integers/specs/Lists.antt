@@ -1,5 +1,5 @@
 -- Lists by their index, over any element: what a loop that fills a lent buffer leaves in it, and
--- what a loop that looks for a fault finds.
+-- what a loop that looks for a fault finds; and what is so of each element.
 use Prim.Native.Nat.{ℕ, zero, suc}
 use mathlib.Core.Bool.{Bool, cond}
 use mathlib.Core.List.{List, [], _∷_, _++_}

@@ -9,6 +9,7 @@ pub mod Sums
 pub mod SumWords
 pub mod Totals
 pub mod Groupings
+pub mod Regrouped
 pub mod Conversions
 pub mod Multiplied
 pub mod Products
