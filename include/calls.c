@@ -248,13 +248,14 @@ static void block_sums(void)
     HOLDS(summed(frost_block_sum(2, 0, fits, 3, zeros, 3), rb(1, 0, 2, 0), 0, FROST_DONE));
     HOLDS(summed(frost_block_sum(2, 0, past, 3, zeros, 3), rb(0, 0, 2, 0), 0, FROST_REFUSED_NUMBER_PAST));
     HOLDS(summed(frost_block_sum(3, 7, past, 3, ones, 3), rb(3, 1, 3, 7), 0, FROST_DONE));
-    HOLDS(summed(frost_block_sum(FROST_MOST_FILE_WIDTH, -127, fits, 0, zeros, 0), rb(0, 0, 48, -127), 0, FROST_DONE));
-    HOLDS(summed(frost_block_sum(FROST_MOST_FILE_WIDTH, 0, ends, 2, ones, 2), rb(ends[1], 1, 48, 0), 0, FROST_DONE));
+    HOLDS(summed(frost_block_sum(FROST_MOST_BLOCK_SUM_WIDTH, -127, fits, 0, zeros, 0), rb(0, 0, 48, -127), 0, FROST_DONE));
+    HOLDS(summed(frost_block_sum(FROST_MOST_BLOCK_SUM_WIDTH, 0, ends, 2, ones, 2), rb(ends[1], 1, 48, 0), 0, FROST_DONE));
     HOLDS(summed(frost_block_sum(47, 0, ends, 2, ones, 2), rb(0, 0, 2, 0), 1, FROST_REFUSED_NUMBER));
     HOLDS(summed(frost_block_sum(2, 0, bad, 4, zeros, 4), rb(0, 0, 2, 0), 1, FROST_REFUSED_NUMBER));
     HOLDS(summed(frost_block_sum(2, 0, past, 3, two, 3), rb(0, 0, 2, 0), 2, FROST_REFUSED_NUMBER));
     HOLDS(summed(frost_block_sum(2, 128, bad, 4, zeros, 4), rb(0, 0, 2, 0), 0, FROST_REFUSED_UNIT));
-    HOLDS(summed(frost_block_sum(49, 128, bad, 4, zeros, 4), rb(0, 0, 2, 0), 0, FROST_REFUSED_WIDTH));
+    HOLDS(summed(frost_block_sum(FROST_MOST_BLOCK_SUM_WIDTH + 1, 128, bad, 4, zeros, 4), rb(0, 0, 2, 0), 0,
+                 FROST_REFUSED_WIDTH));
     HOLDS(summed(frost_block_sum(1, 128, bad, 4, zeros, 3), rb(0, 0, 2, 0), 0, FROST_REFUSED_FORM));
 }
 

@@ -48,8 +48,8 @@ enum frost_refusal {
 /* The kind of a block's words. */
 enum frost_kind { FROST_KIND_PLAIN = 0, FROST_KIND_ROUND_BIT = 1, FROST_KIND_HALF_UNIT = 2 };
 
-/* Limits: widths and units of every word, widths and records of a file, widths of a reading, and what a buffer must
- * hold for the longest digit text, file and listing. A block sum has the widths of a file. */
+/* Limits: widths and units of every word, widths and records of a file, widths of a reading and of a block sum, and what
+ * a buffer must hold for the longest digit text, file and listing. */
 enum frost_limit {
     FROST_LEAST_WIDTH = 2,
     FROST_MOST_WIDTH = 63,
@@ -58,6 +58,7 @@ enum frost_limit {
     FROST_MOST_FILE_WIDTH = 48,
     FROST_MOST_RECORDS = 8000,
     FROST_MOST_READING_WIDTH = 24,
+    FROST_MOST_BLOCK_SUM_WIDTH = 48,
     FROST_LONGEST_DIGIT_TEXT = FROST_MOST_WIDTH,
     FROST_LONGEST_FILE = 12 + 7 * FROST_MOST_RECORDS,
     FROST_LONGEST_LISTING = 328019
@@ -132,8 +133,8 @@ static inline const char *frost_refusal_text(uint32_t refusal)
     case FROST_REFUSED_BUFFER: return "a lent buffer is too short for what would be written";
     case FROST_REFUSED_MARK: return "a file's mark or version is wrong";
     case FROST_REFUSED_FORM:
-        return "a file's length, kind or count is wrong; or a reading's kind is, or the numbers and round bits of a reading or "
-               "a block sum are of unlike lengths";
+        return "a file's length, kind or count is wrong; or a reading's kind is, or the numbers and round bits of a "
+               "reading or a block sum are of unlike lengths";
     case FROST_REFUSED_BYTE: return "a digit text has a byte that is not `+`, `0` or `-`";
     case FROST_REFUSED_RUN: return "a reading's run of records is empty or passes the end of the block";
     case FROST_REFUSED_NOT_FINITE: return "a binary64 sample is an infinity or a not-a-number";

@@ -35,7 +35,7 @@ static uint32_t read_run(void)
 }
 static uint32_t sum_block(void)
 {
-    return frost_block_sum(FROST_MOST_FILE_WIDTH, 0, many_numbers, records, many_rounds, records).refusal;
+    return frost_block_sum(FROST_MOST_BLOCK_SUM_WIDTH, 0, many_numbers, records, many_rounds, records).refusal;
 }
 static uint32_t list(void) { return frost_listing_text(file, sizeof file, text, sizeof text).refusal; }
 static uint32_t list_counted(void) { return frost_listing_text(file, sizeof file, text, 200000).refusal; }
