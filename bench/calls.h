@@ -28,6 +28,8 @@
     frost_reading_answer JOIN(who, reading_of_run)(uint32_t kind, uint32_t width, const int64_t *numbers,             \
                                                    size_t numbers_length, const uint8_t *rounds,                      \
                                                    size_t rounds_length, size_t first, size_t length);                \
+    frost_block_sum_answer JOIN(who, block_sum)(uint32_t width, int32_t unit, const int64_t *numbers,                 \
+                                                size_t numbers_length, const uint8_t *rounds, size_t rounds_length);  \
     frost_written JOIN(who, listing_text)(const uint8_t *file, size_t length, uint8_t *text, size_t room)
 
 #endif

@@ -10,6 +10,7 @@
 #include "peer_import.c"
 #include "peer_text.c"
 #include "peer_file.c"
+#include "peer_block_sum.c"
 #else
 #include "calls.h"
 DECLARE(WHO);
@@ -116,6 +117,12 @@ static void read_run(const struct work *w, struct answers *a)
                                       r->first, r->length);
 }
 
+static void sum_block(const struct work *w, struct answers *a)
+{
+    const struct summed *s = &w->summed;
+    a->block_sum = CALL(block_sum)(s->width, s->unit, s->numbers, s->numbers_count, s->rounds, s->rounds_count);
+}
+
 static void write_listing(const struct work *w, struct answers *a)
 {
     a->written = CALL(listing_text)(w->file, w->length, a->bytes, w->text_room);
@@ -140,6 +147,7 @@ loop *const NAME[LOOPS] = {
     [READ] = read_file,
     [WRITE] = write_file,
     [READING] = read_run,
+    [BLOCK_SUM] = sum_block,
     [LISTING] = write_listing,
     [LISTING_IN_LITTLE_ROOM] = write_listing_in_little_room,
     [EACH_SUM] = each_sum,

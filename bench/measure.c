@@ -20,6 +20,9 @@ enum { UNWRITTEN = 'u' };
 
 extern loop *const library[LOOPS], *const call[LOOPS], *const inlined[LOOPS], *const second[LOOPS];
 
+loop from_left_sum_block;
+static loop *const from_left[LOOPS] = {[BLOCK_SUM] = from_left_sum_block};
+
 #ifdef FIXMATH
 void fixmath_prepare(const struct work *w);
 loop fixmath_put_hand_out;
@@ -31,54 +34,60 @@ loop systemc_put_hand_out;
 static loop *const systemc[LOOPS] = {[PUT_HAND_OUT] = systemc_put_hand_out};
 #endif
 
-/* The first is the one that the others are held to; a peer with rules of its own is only held near. */
+/* The first is the one that the others are held to. A peer that adds in another order may refuse others for 8; one with
+ * rules of its own is only held near. */
+enum rules { SAME_RULES, OTHER_ORDER, OWN_RULES };
 static const struct peer {
     const char *name;
     loop *const *loops;
-    int own_rules;
+    enum rules rules;
 } peers[] = {
-    {"library", library, 0},
-    {"call", call, 0},
-    {"inlined", inlined, 0},
-    {"second", second, 0},
+    {"library", library, SAME_RULES},
+    {"call", call, SAME_RULES},
+    {"inlined", inlined, SAME_RULES},
+    {"second", second, SAME_RULES},
+    {"from-left", from_left, OTHER_ORDER},
 #ifdef FIXMATH
-    {"libfixmath", fixmath, 1},
+    {"libfixmath", fixmath, OWN_RULES},
 #endif
 #ifdef SYSTEMC
-    {"sc_fix_fast", systemc, 1},
+    {"sc_fix_fast", systemc, OWN_RULES},
 #endif
 };
 enum { PEERS = sizeof peers / sizeof *peers };
 
-/* A repetition goes through all works of a row, and so through as many words or records in every row. Short files are
- * several works, not one time and again, which a processor learns by heart. Every work has a file, also where its loop
- * reads none, and so every row the version of its files. Repetitions: enough for the clock. */
+/* A repetition goes through all works of a row, and so through as many words or records in every row but that of the
+ * longest block. Short files are several works, not one time and again, which a processor learns by heart; no branch of
+ * a block sum goes by its records, so a block of 8,000 is one work. Every work has a file, also where its loop reads
+ * none, and so every row the version of its files. Repetitions: enough for the clock. */
 enum { PIECES = MOST_RECORDS, MOST_WORKS = 8 };
 static const struct row {
     const char *name;
-    int loop, version, works, repetitions;
+    int loop, version, pieces, works, repetitions;
 } rows[] = {
-    {"sum", SUM, VERSION_1, 1, 50},
-    {"cut", CUT, VERSION_1, 1, 50},
-    {"even-cut", EVEN_CUT, VERSION_1, 1, 50},
-    {"product", PRODUCT, VERSION_1, 1, 50},
-    {"put-hand-out", PUT_HAND_OUT, VERSION_1, 1, 20},
-    {"bank", BANK, VERSION_1, 1, 20},
-    {"import-plain", IMPORT_PLAIN, VERSION_1, 1, 20},
-    {"import-half", IMPORT_HALF, VERSION_1, 1, 20},
-    {"text-write", TEXT_WRITE, VERSION_1, 1, 20},
-    {"text-read", TEXT_READ, VERSION_1, 1, 20},
-    {"read", READ, VERSION_1, 1, 100},
-    {"write", WRITE, VERSION_1, 1, 100},
-    {"read-2", READ, VERSION_2, 1, 100},
-    {"write-2", WRITE, VERSION_2, 1, 100},
-    {"reading", READING, VERSION_1, 1, 100},
-    {"listing", LISTING, VERSION_1, 1, 5},
-    {"listing-little", LISTING_IN_LITTLE_ROOM, VERSION_1, 1, 5},
-    {"listing-2", LISTING, VERSION_2, 1, 5},
-    {"read-1000", READ, VERSION_1, MOST_WORKS, 100},
-    {"write-1000", WRITE, VERSION_1, MOST_WORKS, 100},
-    {"listing-1000", LISTING, VERSION_1, MOST_WORKS, 5},
+    {"sum", SUM, VERSION_1, PIECES, 1, 50},
+    {"cut", CUT, VERSION_1, PIECES, 1, 50},
+    {"even-cut", EVEN_CUT, VERSION_1, PIECES, 1, 50},
+    {"product", PRODUCT, VERSION_1, PIECES, 1, 50},
+    {"put-hand-out", PUT_HAND_OUT, VERSION_1, PIECES, 1, 20},
+    {"bank", BANK, VERSION_1, PIECES, 1, 20},
+    {"import-plain", IMPORT_PLAIN, VERSION_1, PIECES, 1, 20},
+    {"import-half", IMPORT_HALF, VERSION_1, PIECES, 1, 20},
+    {"text-write", TEXT_WRITE, VERSION_1, PIECES, 1, 20},
+    {"text-read", TEXT_READ, VERSION_1, PIECES, 1, 20},
+    {"read", READ, VERSION_1, PIECES, 1, 100},
+    {"write", WRITE, VERSION_1, PIECES, 1, 100},
+    {"read-2", READ, VERSION_2, PIECES, 1, 100},
+    {"write-2", WRITE, VERSION_2, PIECES, 1, 100},
+    {"reading", READING, VERSION_1, PIECES, 1, 100},
+    {"block-sum", BLOCK_SUM, VERSION_1, PIECES, 1, 20},
+    {"block-sum-1000000", BLOCK_SUM, VERSION_1, MOST_SUMMED, 1, 1},
+    {"listing", LISTING, VERSION_1, PIECES, 1, 5},
+    {"listing-little", LISTING_IN_LITTLE_ROOM, VERSION_1, PIECES, 1, 5},
+    {"listing-2", LISTING, VERSION_2, PIECES, 1, 5},
+    {"read-1000", READ, VERSION_1, PIECES, MOST_WORKS, 100},
+    {"write-1000", WRITE, VERSION_1, PIECES, MOST_WORKS, 100},
+    {"listing-1000", LISTING, VERSION_1, PIECES, MOST_WORKS, 5},
 };
 enum { ROWS = sizeof rows / sizeof *rows };
 
@@ -112,6 +121,11 @@ static int same_written_text(const struct written_text *x, const struct written_
     return same_written(x->written, y->written) && memcmp(x->bytes, y->bytes, sizeof x->bytes) == 0;
 }
 
+static int same_block_sum(frost_block_sum_answer x, frost_block_sum_answer y)
+{
+    return same_word(x.word, y.word) && x.index == y.index && x.refusal == y.refusal;
+}
+
 static int same(const struct work *w, const struct answers *x, const struct answers *y)
 {
     for (int i = 0; i < w->words; i++)
@@ -121,10 +135,19 @@ static int same(const struct work *w, const struct answers *x, const struct answ
             !same_plain(x->plains[i], y->plains[i]) || !same_half_unit(x->half_units[i], y->half_units[i]))
             return 0;
     return memcmp(&x->head, &y->head, sizeof x->head) == 0 &&
-           memcmp(&x->reading, &y->reading, sizeof x->reading) == 0 &&
+           memcmp(&x->reading, &y->reading, sizeof x->reading) == 0 && same_block_sum(x->block_sum, y->block_sum) &&
            memcmp(x->numbers, y->numbers, sizeof x->numbers) == 0 &&
            memcmp(x->rounds, y->rounds, sizeof x->rounds) == 0 && same_written(x->written, y->written) &&
            memcmp(x->bytes, y->bytes, sizeof x->bytes) == 0;
+}
+
+/* Also where a step of one does not fit and the other is done: that alone goes by the order. */
+static int same_but_past(const struct work *w, const struct answers *x, const struct answers *y)
+{
+    uint32_t one = x->block_sum.refusal, other = y->block_sum.refusal;
+    if ((one == DONE && other == ANSWER_DOES_NOT_FIT) || (one == ANSWER_DOES_NOT_FIT && other == DONE))
+        return 1;
+    return same(w, x, y);
 }
 
 /* All that was handed out is never further apart than one coarse unit. */
@@ -145,7 +168,8 @@ static int refused(const struct work *w, const struct answers *a)
         if (a->words[i].refusal != DONE || a->written_texts[i].written.refusal != DONE || a->texts[i].refusal != DONE ||
             a->plains[i].refusal != DONE || a->half_units[i].refusal != DONE)
             return 1;
-    return a->head.refusal != DONE || a->reading.refusal != DONE || a->written.refusal != DONE;
+    return a->head.refusal != DONE || a->reading.refusal != DONE || a->written.refusal != DONE ||
+           a->block_sum.refusal != DONE;
 }
 
 static void fail(const char *peer, const char *what)
@@ -180,7 +204,7 @@ static void check_row(const struct row *row, const struct peer *peer)
         /* A refusal would be quick work. */
         if (refused(w, &answers[0]))
             fail(row->name, "the work is refused");
-        if (!(peer->own_rules ? near : same)(w, &answers[0], &answers[1]))
+        if (!(peer->rules == OWN_RULES ? near : same)(w, &answers[0], &answers[1]))
             fail(peer->name, row->name);
     }
 }
@@ -191,9 +215,11 @@ static void check_odd(void)
     for (uint64_t seed = 0; seed < ODD_WORKS; seed++) {
         make_odd_work(works, seed);
         for (int p = 1; p < PEERS; p++)
-            for (int loop = 0; loop < LOOPS && !peers[p].own_rules; loop++) {
+            for (int loop = 0; loop < LOOPS; loop++) {
+                if (peers[p].loops[loop] == NULL || peers[p].rules == OWN_RULES)
+                    continue;
                 answer(loop, works, &peers[p]);
-                if (!same(works, &answers[0], &answers[1]))
+                if (!(peers[p].rules == OTHER_ORDER ? same_but_past : same)(works, &answers[0], &answers[1]))
                     fail(peers[p].name, "odd work");
             }
     }
@@ -202,7 +228,7 @@ static void check_odd(void)
 static void prepare(const struct row *row)
 {
     for (int i = 0; i < row->works; i++)
-        make_work(&works[i], (uint64_t)i, &layouts[row->version], PIECES / (uint32_t)row->works);
+        make_work(&works[i], (uint64_t)i, &layouts[row->version], (uint32_t)(row->pieces / row->works));
 #ifdef FIXMATH
     fixmath_prepare(works);
 #endif
@@ -219,7 +245,7 @@ static void check_all(void)
         for (int p = 0; p < PEERS; p++)
             if (peers[p].loops[rows[r].loop] != NULL) {
                 check_row(&rows[r], &peers[p]);
-                printf("%s %s %d\n", rows[r].name, peers[p].name, PIECES);
+                printf("%s %s %d\n", rows[r].name, peers[p].name, rows[r].pieces);
             }
     }
 }
@@ -259,7 +285,7 @@ static void print_times(void)
     for (int r = 0; r < ROWS; r++)
         for (int p = 0; p < PEERS; p++)
             if (peers[p].loops[rows[r].loop] != NULL)
-                printf("%s %s %d %.0f\n", rows[r].name, peers[p].name, PIECES, best[r][p]);
+                printf("%s %s %d %.0f\n", rows[r].name, peers[p].name, rows[r].pieces, best[r][p]);
 }
 
 static int run(const char *row, const char *peer, int repetitions)

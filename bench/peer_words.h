@@ -1,4 +1,4 @@
-/* What the C peer's words, running sum, filter bank and digit text need. */
+/* What the C peer's words, running sum, filter bank, digit text and block sum need. */
 #ifndef PEER_WORDS_H
 #define PEER_WORDS_H
 

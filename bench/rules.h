@@ -85,6 +85,9 @@ static inline size_t file_size(const struct layout *layout, size_t count)
 /* A reading for the plotting desk. */
 enum { LEAST_READING_WIDTH = LEAST_WIDTH, MOST_READING_WIDTH = 24 };
 
+/* The sum of a block, of any number of records. */
+enum { LEAST_BLOCK_SUM_WIDTH = LEAST_WIDTH, MOST_BLOCK_SUM_WIDTH = 48 };
+
 /* The filter bank: as many samples as taps. */
 enum { CHANNELS = 4, TAPS = 8, TAP_WIDTH = 12, SAMPLE_WIDTH = 16, BANK_SUM_WIDTH = 31, BANK_DEPTH = 11 };
 

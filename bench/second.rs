@@ -11,7 +11,7 @@ mod model;
 use library::*;
 use model::block_file::Block;
 use model::reading::{self, Run};
-use model::{bank, binary64, block_file, digit_text, listing, round_bit, running_sum};
+use model::{bank, binary64, block_file, block_sum, digit_text, listing, round_bit, running_sum};
 use std::slice::{from_raw_parts, from_raw_parts_mut};
 
 #[no_mangle]
@@ -163,6 +163,25 @@ pub unsafe extern "C" fn second_reading_of_run(
         rounds: from_raw_parts(rounds, rounds_length),
         first: first as i128,
         length: length as i128,
+    }))
+}
+
+/// # Safety
+/// As for reading.
+#[no_mangle]
+pub unsafe extern "C" fn second_block_sum(
+    width: u32,
+    unit: i32,
+    numbers: *const i64,
+    numbers_length: usize,
+    rounds: *const u8,
+    rounds_length: usize,
+) -> FrostBlockSumAnswer {
+    OfModel::of(block_sum::of_block(block_sum::Block {
+        width: width as i128,
+        unit: unit as i128,
+        numbers: from_raw_parts(numbers, numbers_length),
+        rounds: from_raw_parts(rounds, rounds_length),
     }))
 }
 

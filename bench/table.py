@@ -18,14 +18,23 @@ ROWS = {
     "read-2": "file read, 8,000 of version 2",
     "write-2": "file write, 8,000 of version 2",
     "reading": "reading, 8,000 records",
+    "block-sum": "block sum, 8,000 records",
+    "block-sum-1000000": "block sum, 1,000,000 records",
     "listing": "listing, 8,000 records",
     "listing-little": "the same in less room",
     "listing-2": "listing, 8,000 of version 2",
     "program": "listing program, 8,000 records",
 }
 PEERS = {"call": "C behind a call", "inlined": "C inlined", "second": "second program"}
+LOOP = {"from-left": "C loop from left"}
 PACKAGES = {"libfixmath": "libfixmath", "sc_fix_fast": "`sc_fix_fast`"}
-GROWING = {"read": "file read", "write": "file write", "listing": "listing"}
+# The row of many records and the row of few.
+GROWING = {
+    ("read", "read-1000"): "file read",
+    ("write", "write-1000"): "file write",
+    ("listing", "listing-1000"): "listing",
+    ("block-sum-1000000", "block-sum"): "block sum",
+}
 
 # The most that a ratio may be.
 AIMS = {
@@ -40,6 +49,8 @@ AIMS = {
     ("read", "call"): 2,
     ("read-2", "call"): 2,
     ("reading", "call"): 1.2,
+    ("block-sum", "call"): 1.2,
+    ("block-sum-1000000", "call"): 1.2,
     ("listing", "call"): 1,
     ("listing-little", "call"): 1,
     ("listing-2", "call"): 1,
@@ -61,8 +72,8 @@ def compared(costs, row, peer):
     return "not installed" if row == "put-hand-out" and peer in PACKAGES else ""
 
 
-def growth(costs, row, peer):
-    ratio = costs[row, peer] / costs[f"{row}-1000", peer]
+def growth(costs, many, few, peer):
+    ratio = costs[many, peer] / costs[few, peer]
     return rated(ratio, GROWTH_AIM if peer == "library" else None)
 
 
@@ -78,7 +89,7 @@ def main():
     for line in sys.stdin:
         row, peer, pieces, cost = line.split()
         costs[row, peer] = int(cost) / int(pieces)
-    peers = PEERS | PACKAGES
+    peers = PEERS | LOOP | PACKAGES
     counted = shown == "instructions"
     print(f"Measured: {shown}. Each ratio is library / peer: under 1 the library is ahead.\n")
     # A count is the same everywhere; a time says nothing but beside another of the same run.
@@ -87,9 +98,12 @@ def main():
         for row, name in ROWS.items()
     ]
     show(["operation", *(["library, instructions a word or record"] if counted else []), *peers.values()], rows)
-    print(f"\nGrowth: {shown} of a record among 8,000 / among 1,000. 1 is linear.\n")
+    print(
+        f"\nGrowth: {shown} of a record among 8,000 / among 1,000, of a block sum among 1,000,000 / among 8,000. "
+        "1 is linear.\n"
+    )
     growing = {"library": "library"} | PEERS
-    rows = [[name, *(growth(costs, row, peer) for peer in growing)] for row, name in GROWING.items()]
+    rows = [[name, *(growth(costs, *pair, peer) for peer in growing)] for pair, name in GROWING.items()]
     show(["operation", *growing.values()], rows)
 
 

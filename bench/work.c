@@ -211,6 +211,18 @@ static void make_imports(struct work *w, uint64_t *state)
     }
 }
 
+/* Of this width, with numbers of at most so many digits. */
+static void make_summed(struct summed *s, uint64_t *state, uint32_t records, uint32_t width, uint32_t digits)
+{
+    s->width = width;
+    s->unit = -8;
+    s->numbers_count = s->rounds_count = records;
+    for (uint32_t k = 0; k < records; k++) {
+        s->numbers[k] = number(state, digits);
+        s->rounds[k] = next(state) & 1;
+    }
+}
+
 /* Widths end at 32 and units at 60, so that no product is refused. */
 void make_work(struct work *w, uint64_t seed, const struct layout *layout, uint32_t records)
 {
@@ -227,15 +239,17 @@ void make_work(struct work *w, uint64_t seed, const struct layout *layout, uint3
         w->depths[i] = below(&state, width - 1);
         w->samples[i] = good_word(&state, SUM_WIDTH, SUM_UNIT);
     }
-    make_block(w, &state, layout, records);
+    uint32_t in_file = records < MOST_RECORDS ? records : MOST_RECORDS;
+    make_block(w, &state, layout, in_file);
     make_banks(w, &state);
     make_texts(w, &state);
     w->numbers_room = w->rounds_room = MOST_RECORDS;
     w->file_room = LONGEST_FILE;
     w->text_room = LONGEST_LISTING;
     w->little_text_room = LONGEST_LISTING - 1;
-    make_run(&w->run, &state, records);
+    make_run(&w->run, &state, in_file);
     make_imports(w, &state);
+    make_summed(&w->summed, &state, records, MOST_BLOCK_SUM_WIDTH, SUMMED_DIGITS);
 }
 
 static const struct layout *any_layout(uint64_t *state)
@@ -401,6 +415,29 @@ static void make_odd_run(struct run *r, uint64_t *state)
     r->length = below(state, 16) == 0 ? next(state) : below(state, records - (uint32_t)r->first % (records + 1) + 2);
 }
 
+/* Mostly of so few digits that many a step passes them: nothing else shows in what order was added. Perhaps with some
+ * records that are no good, one perhaps for its round byte alone; perhaps of another width or unit, or with unlike
+ * lengths. */
+static void make_odd_summed(struct summed *s, uint64_t *state)
+{
+    uint32_t widths = below(state, 4) == 0 ? MOST_BLOCK_SUM_WIDTH - LEAST_BLOCK_SUM_WIDTH + 1 : 4;
+    uint32_t width = LEAST_BLOCK_SUM_WIDTH + below(state, widths);
+    make_summed(s, state, below(state, 16), width, width - 1);
+    s->unit = odd_unit(state);
+    if (below(state, 2) == 0)
+        make_odd_records(s->numbers, s->rounds, s->numbers_count, state, ROUND_BIT, width);
+    if (below(state, 8) == 0)
+        s->rounds[below(state, 16)] = 2;
+    if (below(state, 4) == 0)
+        s->width = odd_file_width(state, any_layout(state));
+    if (below(state, 8) == 0)
+        s->width = (uint32_t)next(state) >> below(state, 32);
+    if (below(state, 8) == 0)
+        s->unit = (int32_t)next(state);
+    if (below(state, 8) == 0)
+        s->rounds_count = below(state, 16);
+}
+
 /* Any room, or the two between which a refusal begins: just the width, and a byte less. */
 static void make_odd_writings(struct work *w, uint64_t *state)
 {
@@ -467,4 +504,5 @@ void make_odd_work(struct work *w, uint64_t seed)
     make_odd_run(&w->run, &seed);
     make_odd_writings(w, &seed);
     make_odd_imports(w, &seed, works_before);
+    make_odd_summed(&w->summed, &seed);
 }

@@ -17,6 +17,10 @@ enum {
     WINDOWS = 1000,
     /* Odd widths go so far past the most. */
     WIDTHS_PAST = 2,
+    /* The longest block that is summed, and the most digits of its numbers: a million of them add up in 46 digits, in
+     * whatever order, and the widest words have 47 and a sign. */
+    MOST_SUMMED = 1000000,
+    SUMMED_DIGITS = 26,
 };
 
 /* With room for the odd ones, which may be too long. */
@@ -47,6 +51,15 @@ struct run {
     uint8_t rounds[MOST_RECORDS];
 };
 
+/* A block that is summed. */
+struct summed {
+    uint32_t width;
+    int32_t unit;
+    size_t numbers_count, rounds_count;
+    int64_t numbers[MOST_SUMMED];
+    uint8_t rounds[MOST_SUMMED];
+};
+
 /* Formats, depths and rooms stand here and not as constants in the loops: a check that the compiler can decide is not
  * the same check. */
 struct work {
@@ -73,6 +86,7 @@ struct work {
     size_t numbers_room, rounds_room, file_room, text_room, little_text_room;
     struct run run;
     struct import imports[MOST_WORDS];
+    struct summed summed;
 };
 
 /* A digit text that was written. The bytes behind it, lent or not, must stay. */
@@ -95,6 +109,7 @@ struct answers {
     uint8_t bytes[LONGEST_LISTING];
     frost_plain_answer plains[MOST_WORDS];
     frost_half_unit_answer half_units[MOST_WORDS];
+    frost_block_sum_answer block_sum;
 };
 
 /* The last is only checked, on odd work. */
@@ -112,6 +127,7 @@ enum {
     READ,
     WRITE,
     READING,
+    BLOCK_SUM,
     LISTING,
     LISTING_IN_LITTLE_ROOM,
     EACH_SUM,
@@ -120,7 +136,8 @@ enum {
 
 typedef void loop(const struct work *w, struct answers *a);
 
-/* Work that nobody refuses, to be measured; each seed has records of its own, in a file of this layout. */
+/* Work that nobody refuses, to be measured; each seed has records of its own, in a file of this layout. A block that is
+ * summed may have more of them than a file. */
 void make_work(struct work *w, uint64_t seed, const struct layout *layout, uint32_t records);
 
 /* Little work, with every cause to be refused over many seeds, in files of every version, to be checked. */
