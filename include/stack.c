@@ -100,14 +100,15 @@ static size_t used_by_sum(uint8_t *stack, size_t count)
     return used(stack, &c);
 }
 
-/* One record is one call, and two are a call more: so many bytes, and as many for each call within it. A block of 2^k
- * records and fewer than 2^(k+1) may have k + 2 of them, and an empty one 1. */
-static const struct { size_t count, calls; } sums[] = {{0, 1}, {3, 3}, {4, 4}, {1000, 11}, {MANY - 1, 21}, {MANY, 22}};
+/* One record is one call, and three are a call more: so many bytes, and as many for each call within it. Of 2^k records
+ * and fewer than 2^(k+1) it is proved that k + 2 parts at most stand within each other; the halves of two records are no
+ * calls of their own, so the calls are one fewer. An empty block is one. */
+static const struct { size_t count, calls; } sums[] = {{0, 1}, {2, 2}, {3, 2}, {1000, 10}, {MANY - 1, 20}, {MANY, 21}};
 enum { SUMS = sizeof sums / sizeof *sums };
 
 static int too_deep(uint8_t *stack)
 {
-    size_t one = used_by_sum(stack, 1), call = used_by_sum(stack, 2) - one;
+    size_t one = used_by_sum(stack, 1), call = used_by_sum(stack, 3) - one;
     int found = 0;
     for (size_t i = 0; i < SUMS; i++) {
         size_t bytes = used_by_sum(stack, sums[i].count);
