@@ -13,7 +13,8 @@ use borrow.Author.Tests.{eqb-true}
 use Rattle.integers.specs.Numbers.{fitsWidth, floorBy, lowest, cleared}
 use Rattle.integers.specs.Numbers.{digit, digitsBelow, anyBelow, lowDigits}
 use Rattle.integers.specs.Bytes.{sameBytes}
-use Rattle.integers.specs.Lists.{firstBad}
+use Rattle.integers.specs.Lists.{firstBad, Each}
+use Rattle.integers.specs.Lists.Each.{none, next}
 use Rattle.integers.proofs.Kit.{and-both}
 use Rattle.integers.proofs.Width.{eqZ-same}
 use Rattle.integers.proofs.Bytes.{same-bytes}
@@ -52,7 +53,7 @@ use Rattle.bench_sheet.specs.Bench.{Check, sum, difference, product, cut
 use Rattle.bench_sheet.specs.Bench.{widen, up, even, sumUp, sumEven, halfProduct}
 use Rattle.bench_sheet.specs.Bench.{worth, fits, text, reading, run, ran, right, every}
 use Rattle.bench_sheet.specs.Bench.{bench, requested}
-use Rattle.bench_sheet.specs.Met.{Answers, Runs, Met, Each, EveryCut}
+use Rattle.bench_sheet.specs.Met.{Answers, Runs, Met, EveryCut}
 
 -- there is a row for each of P1 to P14, and every check of every row holds; so does every check of
 -- the later examples
@@ -150,10 +151,10 @@ right-met (run n e d calls) h = run-met n e d calls h
 
 every-each : {A : Type 0} (test : A → Bool) {P : A → Type 0} →
     ((x : A) → test x ≡ true → P x) → (xs : List A) → every test xs ≡ true → Each P xs
-every-each test each [] h = tt
+every-each test each [] h = none
 every-each test each (x ∷ more) h =
     let p = and-both (test x) (every test more) h in
-    (each x (p .0), every-each test each more (p .1))
+    next (each x (p .0)) (every-each test each more (p .1))
 
 -- every check of every row, of the code: whatever meets the contracts is what the table has
 bench-met : Each (Each Met) bench

@@ -77,11 +77,6 @@ Met (run n e d calls) =
     (numberOf (a .outcome) ≡ 0) × (flatWord (a .sum .kept) ≡ flat 0 (pos 0) 0 n e)
     × Runs (a .sum) calls
 
--- it holds of every member of the list
-abbrev pub Each : {A : Type 0} → (A → Type 0) → List A → Type 0
-Each P [] = Unit {0}
-Each P (x ∷ more) = P x × Each P more
-
 -- P7 names no word: the cut by d of every right word of a format has an outcome of this number
 abbrev pub EveryCut : Format → ℕ → ℕ → Type 0
 EveryCut f d n =

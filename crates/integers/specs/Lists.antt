@@ -34,6 +34,6 @@ abbrev pub all : ℕ → (ℕ → Bool) → Bool
 all n good = eqb (firstBad n good) n
 
 -- it is so of each element
-unfoldable pub Each : {A : Type 0} → (A → Type 0) → List A → Type 0
-Each P [] = record {}
-Each P (x ∷ more) = P x × Each P more
+pub data Each {A : Type 0} (P : A → Type 0) : List A → Type 0 where
+  none : Each P []
+  next : {x : A} {more : List A} → P x → Each P more → Each P (x ∷ more)
