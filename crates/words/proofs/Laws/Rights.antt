@@ -1,4 +1,4 @@
--- What a passed check of a format and of a word tells, and what it asks: `right-format`, `format-right`, `right`, `word-right`, `small`,
+-- What a passed check of a format and of a word tells, and what it asks: `width-passed`, `right-format`, `format-right`, `right`, `word-right`, `small`,
 -- `machine`, `blank-right`, and the same of each kind of word. Assumes nothing.
 -- Proved here: `narrow`, `wide`, `fine`, `coarse`, `format`, `size`, `bit`, `plain-right`, `plain-passes`, `round-bit-right`, `round-bit-passes`,
 -- `half-unit-right`, `half-unit-passes`.
@@ -6,7 +6,7 @@ use Prim.Native.Nat.{ℕ, _-_, _^_, _≤_, _<_}
 use native.Mathlib.Nat.{lt-of-lt-of-le}
 use native.Mathlib.Omega.{arith}
 use mathlib.Core.Path.{_≡_, refl}
-use mathlib.Core.Bool.{_||_}
+use mathlib.Core.Bool.{not, _&&_, _||_}
 use lib.Dec.{leb}
 use lib.Pow.{pow-mono}
 use lib.IntN.{ℤ, pos, negℤ}
@@ -30,6 +30,12 @@ use Rattle.words.specs.declared.RoundBitWord.{RoundBitWord}
 use Rattle.words.specs.declared.HalfUnitWord.{HalfUnitWord}
 use Rattle.words.proofs.Laws.Outcomes.{passed, both-passed, or-false}
 
+-- ---- a width that 1 does not refuse lies between the ends that it asks for
+pub width-passed : (least most n : ℕ) → refuseFor Width (not (leb least n && leb n most)) ≡ Done → (least ≤ n) × (n ≤ most)
+width-passed least most n e =
+    let w = and-both (leb least n) (leb n most) (not-false _ (passed Width (not (leb least n && leb n most)) e)) in
+    (leb-true least n (w .0), leb-true n most (w .1))
+
 -- ---- what a passed check of a format tells, and what it asks
 pub record RightFormat (f : Format) : Type 0 where
   pub narrow : 2 ≤ f .width
@@ -41,11 +47,11 @@ pub right-format : (f : Format) → formatCheck f ≡ Done → RightFormat f
 unfolding formatCheck
 right-format f e =
     let p = both-passed (refuseFor Width (badWidth (f .width))) (refuseFor Unit (badUnit (f .unit))) e in
-    let w = and-both (leb 2 (f .width)) (leb (f .width) 63) (not-false _ (passed Width (badWidth (f .width)) (p .0))) in
+    let w = width-passed 2 63 (f .width) (p .0) in
     let u = not-false (lies (negℤ (pos 127)) (pos 127) (f .unit)) (passed Unit (badUnit (f .unit)) (p .1)) in
     record {
-      narrow = leb-true 2 (f .width) (w .0);
-      wide = leb-true (f .width) 63 (w .1);
+      narrow = w .0;
+      wide = w .1;
       fine = omega (ints, lies-low (negℤ (pos 127)) (pos 127) (f .unit) u);
       coarse = omega (ints, lies-high (negℤ (pos 127)) (pos 127) (f .unit) u);
     }
