@@ -1,21 +1,16 @@
 -- Document 02, Ask 9, of the C functions: what frost_block_sum answers is what calls of frost_round_bit_sum come to, in any grouping and order
 -- in which none is refused. Such calls are calls of the Rattle functions. Assumes nothing.
 -- Proved here: `sums-in`, `block-sum-agrees`.
-use Prim.Native.Nat.{ℕ}
-use mathlib.Core.List.{List, List·Permᴰ as Permuted}
+use mathlib.Core.List.{List·Permᴰ as Permuted}
 use mathlib.Core.Path.{_≡_, refl, sym, ap, subst, _∙_}
-use lib.IntN.{ℤ}
 use contract.Lifetimes.{Lfts}
 use borrow.Fn.Kinds.{Dens}
 use Rattle.words.specs.Refusals.{numberOf}
-use Rattle.words.specs.Formats.{format}
-use Rattle.words.specs.declared.{Outcome.{Outcome, the-variants.Done}, Format.Format}
+use Rattle.words.specs.declared.{Outcome.{Outcome, the-variants.Done}}
 use Rattle.round_bit.specs.Arithmetic.{sumOf}
 use Rattle.round_bit.specs.Groupings.{Grouping, one, both, wordsIn}
 use Rattle.round_bit.proofs.SumLinks.{SumLinks, a-word, a-sum}
-use Rattle.block_sum.specs.Halves.{recordsOf}
-use Rattle.block_sum.specs.Sums.{blockSumOf}
-use Rattle.block_sum.proofs.Links.{linked-agrees}
+use Rattle.block_sum.proofs.Links.{handed, asked, linked-agrees}
 use Rattle.frostuldi.specs.declared.{FrostRoundBit.FrostRoundBit, FrostRoundBitAnswer.FrostRoundBitAnswer, FrostBlockSumAnswer.FrostBlockSumAnswer}
 use Rattle.frostuldi.specs.Boundary.{roundBitIn, flatRoundBit}
 use Rattle.frostuldi.proofs.frost_round_bit_sum.Reads as frost-round-bit-sum
@@ -39,19 +34,9 @@ sums-in (frost-sum {s} {t} {v} {w} {a} x y m e) =
     let done = none-refused (r .outcome) (sym (ap (λ (b : FrostRoundBitAnswer). b .refusal) m) ∙ e) in
     subst (SumLinks (both s t)) (sym (ap (λ (b : FrostRoundBitAnswer). roundBitIn (b .word)) m)) (a-sum {a = r} (sums-in x) (sums-in y) refl done)
 
--- an answer that the contract of frost_block_sum admits, and that is not refused: x has the width, the unit, the numbers and the round bits
+-- an answer that the contract of frost_block_sum admits, and that is not refused
 module _ (κs : Lfts 2) (x : Dens κs kinds.ps) (a : FrostBlockSumAnswer) (e : _) (meets : frost-block-sum.Post κs x a e) (done : a .refusal ≡ 0) where
-  abbrev f : Format
-  f = format (x .0) (x .1 .0)
-
-  abbrev numbers : List ℤ
-  numbers = x .1 .1 .0 .now
-
-  abbrev rounds : List ℕ
-  rounds = x .1 .1 .1 .0 .now
-
-  pub block-sum-agrees : (t : Grouping) (w : FrostRoundBit) → FrostSums t w → Permuted (wordsIn t) (recordsOf f numbers rounds) → w ≡ a .word
+  pub block-sum-agrees : (t : Grouping) (w : FrostRoundBit) → FrostSums t w → Permuted (wordsIn t) (handed κs x) → w ≡ a .word
   block-sum-agrees t w l p =
-      let b = blockSumOf f numbers rounds in
-      let summed = none-refused (b .outcome) (sym (ap (λ (c : FrostBlockSumAnswer). c .refusal) meets) ∙ done) in
-      ap flatRoundBit (linked-agrees f numbers rounds summed t (roundBitIn w) (sums-in l) p) ∙ sym (ap (λ (c : FrostBlockSumAnswer). c .word) meets)
+      let summed = none-refused (asked κs x .outcome) (sym (ap (λ (c : FrostBlockSumAnswer). c .refusal) meets) ∙ done) in
+      ap flatRoundBit (linked-agrees κs x summed t (roundBitIn w) (sums-in l) p) ∙ sym (ap (λ (c : FrostBlockSumAnswer). c .word) meets)
