@@ -1,10 +1,15 @@
--- Lists by their index, over any element: what a loop that fills a lent buffer leaves in it, and
--- what a loop that looks for a fault finds; and what is so of each element.
+-- Lists over any element: what is so of each; and by their index, what a loop that fills a lent
+-- buffer leaves in it, and what a loop that looks for a fault finds.
 use Prim.Native.Nat.{ℕ, zero, suc}
 use mathlib.Core.Bool.{Bool, cond}
 use mathlib.Core.List.{List, [], _∷_, _++_}
 use lib.Dec.{eqb}
 use lib.ListN.{length, drop}
+
+-- it is so of each element
+pub data Each {A : Type 0} (P : A → Type 0) : List A → Type 0 where
+  none : Each P []
+  next : {x : A} {more : List A} → P x → Each P more → Each P (x ∷ more)
 
 -- f 0, f 1, .. f (n - 1)
 abbrev pub tab : {A : Type 0} → ℕ → (ℕ → A) → List A
@@ -32,8 +37,3 @@ firstBad (suc n) good = cond (good zero) (suc (firstBad n (λ k. good (suc k))))
 -- the test holds at every index below n
 abbrev pub all : ℕ → (ℕ → Bool) → Bool
 all n good = eqb (firstBad n good) n
-
--- it is so of each element
-pub data Each {A : Type 0} (P : A → Type 0) : List A → Type 0 where
-  none : Each P []
-  next : {x : A} {more : List A} → P x → Each P more → Each P (x ∷ more)
