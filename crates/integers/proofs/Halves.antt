@@ -1,18 +1,20 @@
 -- Numbers with their lowest digit cleared, doubled numbers and odd ones: what fits, and the product of half-unit words. Assumes nothing.
--- Proved here: `fits-cleared`, `cleared-size`, `doubled-size`, `half-product-odd`, `half-product-is`, `half-product-mag`, `half-product-size`.
+-- Proved here: `fits-cleared`, `cleared-size`, `doubled-floor`, `doubled-lowest`, `doubled-digit`, `doubled-fits`,
+-- `doubled-size`, `half-product-odd`, `half-product-is`, `half-product-mag`, `half-product-size`.
 use mathlib.Core.Path.{_≡_, refl, sym, ap, _∙_}
 use mathlib.Core.Bool.{Bool, true, false}
-use Prim.Native.Nat.{ℕ, suc, _+_, _*_, _-_, _^_, _<_, _≤_}
+use Prim.Native.Nat.{ℕ, suc, _+_, _*_, _-_, _/_, _^_, _<_, _≤_}
 use native.Mathlib.Omega.{arith}
 use native.Mathlib.Nat.{mul-le-mul, pow-succ'}
 use lib.Pow.{pow-add}
 use lib.IntN.{ℤ, pos, negsuc, _+ℤ_, _-ℤ_, _*ℤ_}
 use lib.Signed.{mag}
-use Rattle.integers.specs.Numbers.{fitsWidth, floorBy, cleared}
+use Rattle.integers.specs.Numbers.{fitsWidth, floorBy, lowest, cleared, digit}
 use Rattle.integers.proofs.Kit.{up, down, ints, plus-law, minus-law, times-law, one-zero, size-range, by-size}
-use Rattle.integers.proofs.Floor.{floor-only, floor-size}
-use Rattle.integers.proofs.Digits.{floor-cleared}
-use Rattle.integers.proofs.Width.{fits-size, by-fits}
+use Rattle.integers.proofs.Floor.{floor-only, floor-none, floor-size}
+use Rattle.integers.proofs.Digits.{lowest-law, floor-cleared}
+use Rattle.integers.proofs.Width.{fits-is, fits-size, by-fits}
+use Rattle.integers.proofs.Tops.{same-test}
 
 -- ---- clearing the lowest digit never changes a fit at a width of 2 or more, since the half decides it
 fits-by-half : (x y : ℤ) (n : ℕ) → 2 ≤ n → floorBy x 1 ≡ floorBy y 1 → fitsWidth x n ≡ true → fitsWidth y n ≡ true
@@ -33,7 +35,35 @@ fits-cleared x n h =
 pub cleared-size : (x : ℤ) (n : ℕ) → 2 ≤ n → mag x < 2 ^ (n - 1) → mag (cleared x) < 2 ^ (n - 1)
 cleared-size x n h k = fits-size (cleared x) n (fits-cleared x n h ∙ by-fits x n k)
 
--- ---- 2 x + r has one digit more
+-- ---- 2 x + r, for a digit r: above its lowest digit, which is r, it has the digits of x, and so one digit more
+module _ (x : ℤ) (r : ℕ) (h : r ≤ 1) where
+  abbrev doubled : ℤ
+  doubled = (pos 2 *ℤ x) +ℤ pos r
+
+  pub doubled-floor : floorBy doubled 1 ≡ x
+  doubled-floor =
+      let twice = times-law (pos 2) x in
+      let more = plus-law (pos 2 *ℤ x) (pos r) in
+      sym (floor-only doubled x 1 (omega arith) (omega arith))
+
+  pub doubled-lowest : lowest doubled ≡ r
+  doubled-lowest = omega (arith, rw doubled-floor at (lowest-law doubled), times-law (pos 2) x, plus-law (pos 2 *ℤ x) (pos r))
+
+  pub doubled-digit : digit doubled 0 ≡ r
+  unfolding digit
+  doubled-digit = ap lowest (floor-none doubled) ∙ doubled-lowest
+
+  pub doubled-fits : (w : ℕ) → 1 ≤ w → fitsWidth doubled (w + 1) ≡ fitsWidth x w
+  doubled-fits w l =
+      let half : mag x ≡ mag doubled / 2 = ap mag (sym doubled-floor) ∙ floor-size doubled 1 in
+      let power : 2 ^ (w + 1 - 1) ≡ 2 * 2 ^ (w - 1) = rw sizes (omega (arith, pow-succ' 2 (w - 1))) in
+      fits-is doubled (w + 1)
+      ∙ same-test (mag x) (2 ^ (w - 1)) (mag doubled) (2 ^ (w + 1 - 1)) (λ k. omega arith) (λ k. omega arith)
+      ∙ sym (fits-is x w)
+    where
+      sizes : w + 1 - 1 ≡ suc (w - 1)
+      sizes = omega arith
+
 pub doubled-size : (x : ℤ) (r j : ℕ) → mag x < 2 ^ j → r ≤ 1 → mag ((pos 2 *ℤ x) +ℤ pos r) < 2 ^ suc j
 doubled-size x r j h l =
     by-size (2 ^ suc j) ((pos 2 *ℤ x) +ℤ pos r)

@@ -1,14 +1,15 @@
 -- The picture that texts are written by (document 000, section 3.1): on top the word doubled, with the round bit in the free place on the right,
 -- at the bottom the word. Assumes nothing.
 -- Proved here: `top-digit`, `top-less-bottom`, `rows-value`, `rows-cut`, `rows-turned`.
-use Prim.Native.Nat.{ℕ, zero, suc, _-_, _*_, _^_, _≤_}
+use Prim.Native.Nat.{ℕ, zero, suc, _-_, _*_, _≤_}
 use native.Mathlib.Numerals.{one-add}
 use mathlib.Core.Path.{_≡_, refl, sym, ap, _∙_}
 use lib.IntN.{ℤ, pos, _+ℤ_, _-ℤ_, _*ℤ_}
 use Rattle.integers.specs.Numbers.{floorBy, digit, turned}
 use Rattle.integers.proofs.Kit.{ints, plus-law, minus-law, times-law}
-use Rattle.integers.proofs.Floor.{floor-none, floor-floor, floor-widened, turned-law}
-use Rattle.integers.proofs.Digits.{digit-law, digit-floor, digit-widened}
+use Rattle.integers.proofs.Floor.{floor-none, floor-floor, turned-law}
+use Rattle.integers.proofs.Digits.{digit-law, digit-floor}
+use Rattle.integers.proofs.Halves.{doubled-floor, doubled-digit}
 use Rattle.words.specs.RoundBit.{roundBitCheck}
 use Rattle.words.specs.declared.Outcome.the-variants.{Done}
 use Rattle.words.specs.declared.RoundBit.{RoundBit}
@@ -22,19 +23,10 @@ use Rattle.digit_text.proofs.Laws.Texts.{signed-digit-is, text-value}
 abbrev pub topRow : RoundBit → ℤ
 topRow x = pos 2 *ℤ x .0 +ℤ pos (x .1)
 
-widened-once : (x : RoundBit) → topRow x ≡ x .0 *ℤ pos (2 ^ 1) +ℤ pos (x .1 * (2 ^ 1 - 1))
-widened-once x =
-    let a = x .0 in
-    let r = x .1 in
-    omega (ints, times-law (pos 2) a, times-law a (pos 2), plus-law (pos 2 *ℤ a) (pos r), plus-law (a *ℤ pos 2) (pos (r * 1)))
-
-top-floor : (x : RoundBit) → x .1 ≤ 1 → floorBy (topRow x) 1 ≡ x .0
-top-floor x h = rw (widened-once x) (floor-widened (x .0) (x .1) 1 h)
-
 -- ---- a column of the top row has the digit right of it in the bottom row, and the rightmost the round bit
 pub top-digit : (x : RoundBit) → x .1 ≤ 1 → (i : ℕ) → digit (topRow x) i ≡ bitBelow x i
-top-digit x h zero = rw (widened-once x) (digit-widened (x .0) (x .1) 0 h)
-top-digit x h (suc i) = ap (digit (topRow x)) (sym (one-add i)) ∙ sym (digit-floor (topRow x) 1 i) ∙ ap (λ (y : ℤ). digit y i) (top-floor x h)
+top-digit x h zero = doubled-digit (x .0) (x .1) h
+top-digit x h (suc i) = ap (digit (topRow x)) (sym (one-add i)) ∙ sym (digit-floor (topRow x) 1 i) ∙ ap (λ (y : ℤ). digit y i) (doubled-floor (x .0) (x .1) h)
 
 -- each digit is the top one less the bottom one, and what the text is worth is the top row less the bottom row
 pub top-less-bottom : (x : RoundBit) → x .1 ≤ 1 → (i : ℕ) → pos (digit (topRow x) i) -ℤ pos (digit (x .0) i) ≡ signedDigit x i
@@ -58,7 +50,7 @@ rows-cut w h (suc k) =
     let kept : topRow (record { 0 = q; 1 = digit a k }) ≡ floorBy a k =
     omega (ints, digit-law a k, times-law (pos 2) q, plus-law (pos 2 *ℤ q) (pos (digit a k))) in
     let t = topRow (w .number) in
-    (kept ∙ ap (λ (y : ℤ). floorBy y k) (sym (top-floor (w .number) h)) ∙ floor-floor t 1 k ∙ ap (floorBy t) (one-add k), refl)
+    (kept ∙ ap (λ (y : ℤ). floorBy y k) (sym (doubled-floor a (w .number .1) h)) ∙ floor-floor t 1 k ∙ ap (floorBy t) (one-add k), refl)
 
 -- ---- all digits of both rows turned over are the picture of the word with its sign changed
 pub rows-turned : (x : RoundBit) → x .1 ≤ 1 → (topRow (signChanged x) ≡ turned (topRow x)) × (signChanged x .0 ≡ turned (x .0))
