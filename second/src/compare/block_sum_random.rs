@@ -92,6 +92,15 @@ pub fn of_way(random: &mut Random, way: &Way, record: &mut Record) {
     }
 }
 
+/// Records whose numbers have at most so many digits, with a round bit once in so many.
+pub fn of_digits(random: &mut Random, digits: u64, seldom: u64, count: usize) -> Vec<Entry> {
+    let entry = |_| {
+        let number = random.next() as FileNumber >> (64 - digits);
+        (number, random.once_in(seldom) as u8)
+    };
+    (0..count).map(entry).collect()
+}
+
 /// Numbers of some digits each, with round bits seldom or often. Half of the blocks
 /// have numbers of about as many digits as their sum has room for.
 fn every_size(random: &mut Random, width: u32, count: usize) -> Vec<Entry> {
@@ -102,11 +111,7 @@ fn every_size(random: &mut Random, width: u32, count: usize) -> Vec<Entry> {
         _ => (near + random.below(3)).clamp(1, most_digits),
     };
     let seldom = random.one_of(&[1, 2, 50, 1000, 1 << 40]);
-    let entry = |_| {
-        let number = random.next() as FileNumber >> (64 - digits);
-        (number, random.once_in(seldom) as u8)
-    };
-    (0..count).map(entry).collect()
+    of_digits(random, digits, seldom, count)
 }
 
 pub fn of_every_size(random: &mut Random, record: &mut Record) {

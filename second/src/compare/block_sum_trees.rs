@@ -6,7 +6,7 @@ use super::block_sum_case::{done, refused};
 use super::block_sum_laws::{added_up, hold};
 use super::block_sum_made::fits;
 use super::block_sum_orders::{step, GROUPINGS};
-use super::block_sum_random::any_unit;
+use super::block_sum_random::{any_unit, of_digits};
 use super::case::Operand;
 use super::exhaustive::lists_over;
 use super::limits::*;
@@ -110,11 +110,7 @@ fn any_entries(random: &mut Random, width: u32, count: usize) -> Vec<Entry> {
         _ => 1 + random.below(no_more_than.max(1)),
     };
     let seldom = random.one_of(&[1, 2, 9, 1 << 40]);
-    let entry = |_| {
-        let number = random.next() as FileNumber >> (64 - digits);
-        (number, random.once_in(seldom) as u8)
-    };
-    (0..count).map(entry).collect()
+    of_digits(random, digits, seldom, count)
 }
 
 /// Words of every width there is: of those wider than a block sum's there is none to
