@@ -22,7 +22,7 @@ extern "C" {
 #endif
 
 /* The version that this header declares, as 10000 * major + 100 * minor + patch. frost_version() tells the archive's. */
-#define FROST_VERSION 40000
+#define FROST_VERSION 30100
 
 /* What `refusal` says. frost_refusal_text() has each in words. */
 enum frost_refusal {
@@ -42,7 +42,6 @@ enum frost_refusal {
     FROST_REFUSED_BYTE = 13,
     FROST_REFUSED_RUN = 14,
     FROST_REFUSED_NOT_FINITE = 15,
-    FROST_REFUSED_COUNT = 16,
     FROST_REFUSED_CHANNEL = 17
 };
 
@@ -78,9 +77,8 @@ typedef struct { frost_plain word; uint32_t refusal; } frost_plain_answer;
 typedef struct { frost_half_unit word; uint32_t refusal; } frost_half_unit_answer;
 typedef struct { frost_round_bit word; uint32_t refusal; } frost_round_bit_answer;
 
-/* A running sum goes in by value and comes back in the answer. `count` is the number of words accepted since it was
- * opened: a put that is done adds 1, every other call leaves it. */
-typedef struct { frost_round_bit kept; uint64_t depth; uint32_t count; } frost_running_sum;
+/* A running sum goes in by value and comes back in the answer. */
+typedef struct { frost_round_bit kept; uint64_t depth; } frost_running_sum;
 typedef struct { frost_running_sum sum; frost_round_bit word; uint32_t refusal; } frost_sum_answer;
 
 /* A filter bank has four channels of eight taps, 12 wide, those of a channel of one unit. Its window has a sample for
@@ -140,7 +138,6 @@ static inline const char *frost_refusal_text(uint32_t refusal)
     case FROST_REFUSED_BYTE: return "a digit text has a byte that is not `+`, `0` or `-`";
     case FROST_REFUSED_RUN: return "a reading's run of records is empty or passes the end of the block";
     case FROST_REFUSED_NOT_FINITE: return "a binary64 sample is an infinity or a not-a-number";
-    case FROST_REFUSED_COUNT: return "a word is put into a running sum whose count is 4,294,967,295";
     case FROST_REFUSED_CHANNEL: return "the channel that a filter bank is asked for is over 3";
     default: return "no refusal has this number";
     }
@@ -192,15 +189,10 @@ static inline uint64_t frost_binary64_bits(double value)
     return bits;
 }
 
-/* The running sum. A refused opening gives a sum that keeps the blank word at depth 0. An opening, done or refused, gives
- * the count 0. An opening and a put hand back no word: theirs is the blank one. A put refuses, in this order,
- *   1, 2, 3  of what is kept, then of the word;
- *   4        a word of another width or unit than the sum's;
- *   5, 7     the sum's depth;
- *   16       a count of 4,294,967,295, which no call but a put looks at: open another sum;
- *   8        a sum that does not fit the width. */
+/* The running sum. A refused opening gives a sum that keeps the blank word at depth 0. An opening and a put hand
+ * back no word: theirs is the blank one. */
 frost_sum_answer frost_running_sum_open(uint32_t width, int32_t unit, uint64_t depth); /* 1, 2, 5, 7 */
-frost_sum_answer frost_running_sum_put(frost_running_sum s, frost_round_bit w);
+frost_sum_answer frost_running_sum_put(frost_running_sum s, frost_round_bit w); /* 1, 2, 3 of both, 4, 5, 7, 8 */
 frost_sum_answer frost_running_sum_hand_out(frost_running_sum s);               /* 1, 2, 3, 5, 7 */
 frost_sum_answer frost_running_sum_empty(frost_running_sum s);                  /* 1, 2, 3, 5, 7 */
 

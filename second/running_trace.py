@@ -1,15 +1,12 @@
 #!/usr/bin/env python3
-"""Print a trace of the running sum of document 01, with its totals, and with the
-count of document 02, Ask 10.
+"""Print a trace of the running sum of document 01, with its totals.
 
 First bench sheet P14, a line per call. Then 10000 words of a fixed signal, put
 into a sum of width 24, unit -8, depth 8, and into a second one with a fault. At
 each thousandth word: the outcomes of six calls in a row; at 5000 and 10000 what
 empty answers; the total accepted, the total handed out and the value kept, of
-both sums, in half units of 2^-8; the count, which both have; and how far the
-faulty sum has crept.
-A word is (number, round bit, width, unit); a running sum is (kept word, depth,
-count).
+both sums, in half units of 2^-8; and how far the faulty sum has crept.
+A word is (number, round bit, width, unit); a running sum is (kept word, depth).
 """
 
 from rules.limits import *
@@ -34,10 +31,9 @@ def add(kept, word):  # "Sum: (a + b + (ra and rb), ra or rb) in the common widt
     return (a + b + (ra & rb), ra | rb, n, e)
 
 
-def refusal(kept, d, count, word=None):  # hand out and empty take no word
+def refusal(kept, d, word=None):  # hand out and empty take no word
     # "1, 2, 3 of the first operand, then 1, 2, 3 of the second, then the lowest
-    # of the others"; the running sum "is the first operand". The others stand here
-    # in their order: 16 is "checked after 7 and before 8".
+    # of the others"; the running sum "is the first operand"
     first = own(kept) or (own(word) if word else DONE)
     if first:
         return first
@@ -49,36 +45,33 @@ def refusal(kept, d, count, word=None):  # hand out and empty take no word
         DEPTH_OUTSIDE: d == 0 or d > n - LEAST_WIDTH,
         # "(e+d over 127)"
         ANSWER_UNIT_OUTSIDE: e + d > MOST_UNIT,
-        # "for a put when the count is 4,294,967,295"
-        COUNT_AT_LIMIT: word and count == MOST_COUNT,
         # "does not fit its width"
         ANSWER_DOES_NOT_FIT: word and not fits(add(kept, word)[0], n)}
-    return next((no for no in others if others[no]), DONE)
+    return min((no for no in others if others[no]), default=DONE)
 
 
 # Each of these is called only when not refused, and answers (word, sum it leaves).
-def put(kept, d, count, word):  # "kept becomes the sum of kept and the word. It hands back no word."
-    return BLANK, (add(kept, word), d, count + 1)  # "the number of words accepted since it was opened"
+def put(kept, d, word):  # "kept becomes the sum of kept and the word. It hands back no word."
+    return BLANK, (add(kept, word), d)
 
 
-# "Hand out and Empty leave it", the count.
-def hand_out(kept, d, count):  # "returns the cut of kept by d; kept becomes the rest"
+def hand_out(kept, d):  # "returns the cut of kept by d; kept becomes the rest"
     a, r, n, e = kept
     top = a // 2**(d - 1) % 2
     cut = (a // 2**d, top, n - d, e + d)  # "(floor(a / 2^d), digit d-1 of a), width n-d, unit e+d"
     # "its number is the low d digits read as two's complement, its round bit the old r"
-    return cut, ((a % 2**d - top * 2**d, r, n, e), d, count)
+    return cut, ((a % 2**d - top * 2**d, r, n, e), d)
 
 
-def empty(kept, d, count):  # "returns the kept word whole; kept becomes (0,0)"
-    return kept, ((0, 0) + kept[2:], d, count)
+def empty(kept, d):  # "returns the kept word whole; kept becomes (0,0)"
+    return kept, ((0, 0) + kept[2:], d)
 
 
 class Trace:
     """Makes each call "on the sum that the call before left", and totals the done answers."""
 
     def __init__(self, n, e, d, faulty=False):  # "of width N and unit e, at first (0,0)"
-        self.sum, self.faulty, self.taken, self.given, self.puts = ((0, 0, n, e), d, 0), faulty, 0, 0, 0
+        self.sum, self.faulty, self.taken, self.given = ((0, 0, n, e), d), faulty, 0, 0
 
     def half_units(self, word):  # "value a + r units", in half units of the sum's unit
         return 2 * (word[0] + word[1]) * 2**(word[3] - self.sum[0][3])
@@ -90,13 +83,11 @@ class Trace:
         answer, self.sum = op(*self.sum, *word)
         if op is put:
             self.taken += self.half_units(word[0])
-            self.puts += 1
         else:  # "Words handed out by either call count in the total."
             self.given += self.half_units(answer)
-        (a, r, n, e), d, count = self.sum
-        assert count == self.puts  # "the count equals the number of accepted puts"
+        (a, r, n, e), d = self.sum
         if op is hand_out and self.faulty:
-            self.sum = (a, 0, n, e), d, count  # "Rest without the old round bit: the total then creeps."
+            self.sum = (a, 0, n, e), d  # "Rest without the old round bit: the total then creeps."
         elif op is hand_out:
             assert 2 * abs(a + r) <= 2**d  # at most half a coarse unit is kept
         return no, answer
@@ -108,11 +99,10 @@ trace = Trace(8, 0, 2)
 P14 = ((3, 0), (0, 1), (-1, 0)), ((3, 0), (0, 1), (-2, 0)), ((0, 1), (-1, 1), (-2, 1))
 for word, out, rest in P14:
     no_put, _ = trace.call(put, word + (8, 0))
-    print("put", no_put, "kept", *trace.sum[0][:2], "count", trace.sum[2])
+    print("put", no_put, "kept", *trace.sum[0][:2])
     no, answer = trace.call(hand_out)
-    print("hand out", no, "word", *answer[:2], "kept", *trace.sum[0][:2], "count", trace.sum[2])
+    print("hand out", no, "word", *answer[:2], "kept", *trace.sum[0][:2])
     assert (no_put, no, answer, trace.sum[0]) == (0, 0, out + (6, 2), rest + (8, 0))
-assert trace.sum[2] == len(P14)
 
 HIGH, LOW, OTHER_UNIT = (8000000, 0, WIDTH, UNIT), (-8000000, 0, WIDTH, UNIT), (1, 1, WIDTH, UNIT + 1)
 SIX = (hand_out,), (hand_out,), (put, HIGH), (put, HIGH), (put, LOW), (put, OTHER_UNIT)
@@ -129,8 +119,7 @@ for k in range(1, WORDS + 1):
     print("calls", *six)
     if k in EMPTIED:
         (no, answer), _ = [t.call(empty) for t in both]
-        print("empty", no, "word", *answer[:2], "count", both[0].sum[2])
-    (i, o, v, c), (ic, oc, vc, cc) = [(t.taken, t.given, t.half_units(t.sum[0]), t.sum[2]) for t in both]
+        print("empty", no, "word", *answer[:2])
+    (i, o, v), (ic, oc, vc) = [(t.taken, t.given, t.half_units(t.sum[0])) for t in both]
     assert i == o + v and (k not in EMPTIED or (i == o and v == 0))
-    assert c == cc == both[0].puts == both[1].puts
-    print(f"{k} in {i} out {o} kept {v} count {c} crept in {ic} out {oc} kept {vc} by {ic - oc - vc}")
+    print(f"{k} in {i} out {o} kept {v} crept in {ic} out {oc} kept {vc} by {ic - oc - vc}")

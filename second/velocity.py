@@ -1,5 +1,4 @@
-"""What examples/velocity.c must print, from document 01 and the count of document 02, Ask 10 alone: round-bit words as
-pairs of whole numbers."""
+"""What examples/velocity.c must print, from document 01 alone: round-bit words as pairs of whole numbers."""
 
 READINGS, CUT, DEPTH, PERIODS = [1000, 2359, 811, 77], 4, 6, 10000
 
@@ -24,21 +23,19 @@ def add(x, y):
 def run(name, round_bit_kept):
     half = [(a, 0) for a in READINGS]
     period = [cut(*w, CUT) for w in half + [sign_change(*w) for w in half]]
-    into = out = count = 0
+    into = out = 0
     kept = (0, 0)
     for _ in range(PERIODS):
         for word in period:
             kept = add(kept, word)
             assert -(2**31) <= kept[0] < 2**31
             into += sum(word)
-            count += 1  # a word accepted; the hand-out below leaves it
         out += sum(cut(*kept, DEPTH)) * 2**DEPTH
         kept = rest(*kept, DEPTH)
         if not round_bit_kept:
             kept = (kept[0], 0)
     velocity = out / 1048576 * 1000
-    kept = sum(kept)
-    print(f"{name}: in {into}, out {out}, kept {kept}, refused 0, samples {count}, velocity {velocity:.3f} mm/s")
+    print(f"{name}: in {into}, out {out}, kept {sum(kept)}, refused 0, velocity {velocity:.3f} mm/s")
 
 
 run("this library", True)

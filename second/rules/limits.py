@@ -4,8 +4,6 @@
 LEAST_WIDTH, MOST_WIDTH = 2, 63
 LEAST_UNIT, MOST_UNIT = -127, 127
 
-MOST_COUNT = 2**32 - 1  # "16 for a put when the count is 4,294,967,295"
-
 BLANK = (0, 0, 2, 0)  # "the blank word (number 0, round bit 0, width 2, unit 0)"
 
 # "Refusal numbers", and what document 02 makes of them
@@ -22,7 +20,6 @@ BUFFER_TOO_SHORT = 10
 MARK_OR_VERSION_WRONG = 11
 LENGTH_KIND_OR_COUNT_WRONG = 12
 BYTE_WRONG = 13
-COUNT_AT_LIMIT = 16
 
 
 def width_is_good(n):

@@ -2,7 +2,7 @@
 -- contract, and each call is made on the sum that came back from the call before (proofs/Chains.antt). Such a chain is a chain of
 -- the Rattle methods, so what proofs/Links.antt of running_sum proves of those holds of it. Half a coarse unit is 2 ^ depth, as
 -- values are in half units of the sum's unit. Assumes nothing.
--- Proved here: `round_bit_back`, `sum_back`, `sum_forth`, `link_in`, `chain_in`, `opening_in`, `flat_linked_refused`, `flat_linked_totals`, `flat_linked_small`, `flat_linked_near`,
+-- Proved here: `round_bit_back`, `sum_back`, `sum_forth`, `flat_linked_refused`, `flat_linked_totals`, `flat_linked_small`, `flat_linked_near`,
 -- `flat_linked_equal`, `flat_linked_unchanged`, `flat_linked_passes`, `flat_linked_shut`.
 use Prim.Native.Nat.{ℕ, zero, suc, ◌^◌, ◌≤◌}
 use mathlib.Core.Path.{◌≡◌, refl, ap, ◌∙◌, subst}
@@ -36,18 +36,18 @@ pub sum_forth : (o : Outcome) (w : RoundBitWord) (s : FrostRunningSum) → (sum_
 sum_forth o w s = refl
 
 -- ---- a link of the C functions is a link of the methods, and a chain a chain
-abbrev pub call_in : FrostCall → Call
+abbrev call_in : FrostCall → Call
 call_in (put w) = Call.put (round_bit_in w)
 call_in hand_out = Call.hand_out
 call_in empty = Call.empty
 
-abbrev pub answered_in : FrostCall → Outcome → FrostSumAnswer → Answered
+abbrev answered_in : FrostCall → Outcome → FrostSumAnswer → Answered
 answered_in c o a = record { call = call_in c; outcome = o; word = round_bit_in a.word }
 
-abbrev pub answers_in : List FrostAnswered → List Answered
+abbrev answers_in : List FrostAnswered → List Answered
 answers_in done = map (λ (a : FrostAnswered). answered_in a.call (outcome_in a.answer.refusal) a.answer) done
 
-abbrev pub MeetsIn : FrostRunningSum → FrostCall → Outcome → FrostSumAnswer → Type 0
+abbrev MeetsIn : FrostRunningSum → FrostCall → Outcome → FrostSumAnswer → Type 0
 MeetsIn s c o a = Meets (sum_in s) (call_in c) o (round_bit_in a.word) (sum_in a.sum)
 
 answer_back : {a : FrostSumAnswer} (o : Outcome) (w : RoundBitWord) (s : RunningSum) → a ≡ sum_out o w s →
@@ -58,12 +58,12 @@ answer_back o w s m = (
   ap (λ (a : FrostSumAnswer). sum_in a.sum) m ∙ sum_back o w s,
 )
 
-pub link_in : (s : FrostRunningSum) (c : FrostCall) (a : FrostSumAnswer) → FrostMeets s c a → MeetsIn s c (outcome_in a.refusal) a
+link_in : (s : FrostRunningSum) (c : FrostCall) (a : FrostSumAnswer) → FrostMeets s c a → MeetsIn s c (outcome_in a.refusal) a
 link_in s (put w) a m = let p = answer_back _ _ _ m in (λ i. record { outcome = p.0 i; sum = p.2 i }, p.1)
 link_in s hand_out a m = let p = answer_back _ _ _ m in λ i. record { outcome = p.0 i; word = p.1 i; sum = p.2 i }
 link_in s empty a m = let p = answer_back _ _ _ m in λ i. record { outcome = p.0 i; word = p.1 i; sum = p.2 i }
 
-pub chain_in : {s u : FrostRunningSum} {done : List FrostAnswered} → FrostLinks s done u → Links (sum_in s) (answers_in done) (sum_in u)
+chain_in : {s u : FrostRunningSum} {done : List FrostAnswered} → FrostLinks s done u → Links (sum_in s) (answers_in done) (sum_in u)
 chain_in chain =
     chain_map sum_in (λ (a : FrostAnswered). answered_in a.call (outcome_in a.answer.refusal) a.answer)
     (λ s t a m. rw m.1 (link_in s a.call a.answer m.0)) chain
@@ -123,10 +123,10 @@ module _ (n : ℕ) (e : ℤ) (d : ℕ) (a : FrostSumAnswer) (opening : frost-ope
   abbrev unit : ℤ
   unit = a.sum.kept.unit
 
-  abbrev pub opened : OpenAnswer
+  abbrev opened : OpenAnswer
   opened = record { outcome = outcome_in a.refusal; sum = sum_in a.sum }
 
-  pub opening_in : opened ≡ open_of n e d
+  opening_in : opened ≡ open_of n e d
   opening_in = let p = answer_back _ _ _ opening in λ i. record { outcome = p.0 i; sum = p.2 i }
 
   module _ (done : List FrostAnswered) (last : FrostRunningSum) (chain : FrostLinks a.sum done last) where

@@ -3,6 +3,5 @@ pub mod Mapped
 pub mod Outcomes
 pub mod Chains
 pub mod Demand3
-pub mod Counts
 pub mod Moves
 pub mod BlockSums

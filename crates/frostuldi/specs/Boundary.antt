@@ -38,7 +38,7 @@ use Rattle.frostuldi.specs.declared.FrostBlockSumAnswer.{FrostBlockSumAnswer}
 
 -- which library this is: 10000 * major + 100 * minor + patch
 abbrev pub version : ℕ
-version = 40000
+version = 30100
 
 -- what comes in
 abbrev pub plain_in : FrostPlain → PlainWord
@@ -51,7 +51,7 @@ abbrev pub round_bit_in : FrostRoundBit → RoundBitWord
 round_bit_in w = round_bit_word w.number w.round (format w.width w.unit)
 
 abbrev pub sum_in : FrostRunningSum → RunningSum
-sum_in s = record { kept = round_bit_in s.kept; depth = s.depth; count = s.count }
+sum_in s = record { kept = round_bit_in s.kept; depth = s.depth }
 
 -- a row and a window are lists of their words, a bank is the list of its rows
 abbrev pub taps_in : FrostTaps → List RoundBitWord
@@ -79,7 +79,7 @@ flat_round_bit w = record {
 }
 
 abbrev pub flat_sum : RunningSum → FrostRunningSum
-flat_sum s = record { kept = flat_round_bit s.kept; depth = s.depth; count = s.count }
+flat_sum s = record { kept = flat_round_bit s.kept; depth = s.depth }
 
 abbrev pub plain_out : Outcome → PlainWord → FrostPlainAnswer
 plain_out o w = record { word = flat_plain w; refusal = number_of o }

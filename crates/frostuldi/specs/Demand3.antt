@@ -1,7 +1,7 @@
 -- Demand 3 as a caller of the C functions sees it: calls on one running sum, each made on the sum
--- that came back from the call before, and the two totals and the number of accepted puts, from the
--- calls and their answers alone. Values are in half units of the sum's unit, 2 ^ e.
-use Rattle.integers.specs.Names.{ℕ, zero, suc, ◌+◌, ◌≡◌, List, [], ◌∷◌, ℤ, pos, ◌+ℤ◌}
+-- that came back from the call before, and the two totals, from the calls and their answers alone.
+-- Values are in half units of the sum's unit, 2 ^ e.
+use Rattle.integers.specs.Names.{ℕ, zero, suc, List, [], ◌∷◌, ℤ, pos, ◌+ℤ◌}
 use Rattle.words.specs.RoundBit.{round_bit_value}
 use Rattle.running_sum.specs.Totals.{amount}
 use Rattle.frostuldi.specs.Boundary.{round_bit_in}
@@ -48,19 +48,3 @@ flat_handed_out e (a ∷ rest) =
 -- "what is kept"
 abbrev pub flat_kept : FrostRunningSum → ℤ
 flat_kept s = round_bit_value (round_bit_in s.kept)
-
--- Ask 10, "the number of accepted puts": of a put with refusal 0 one, of every other call none
-unfoldable pub flat_accepted_put : FrostCall → ℕ → ℕ
-flat_accepted_put (put w) zero = 1
-flat_accepted_put (put w) (suc n) = 0
-flat_accepted_put hand_out n = 0
-flat_accepted_put empty n = 0
-
-unfoldable pub flat_accepted_puts : List FrostAnswered → ℕ
-flat_accepted_puts [] = 0
-flat_accepted_puts (a ∷ rest) =
-    flat_accepted_put a.call a.answer.refusal + flat_accepted_puts rest
-
--- the refusal of this answer is not 16
-abbrev pub FlatNotFull : FrostAnswered → Type 0
-FlatNotFull a = a.answer.refusal ≡ 16 → ⊥

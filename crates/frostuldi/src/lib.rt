@@ -87,7 +87,6 @@ pub struct FrostRoundBitAnswer {
 pub struct FrostRunningSum {
     pub kept: FrostRoundBit,
     pub depth: u64,
-    pub count: u32,
 }
 
 // An opening and a put hand back no word: theirs is the blank one.
@@ -214,11 +213,9 @@ fn sum_in(s: FrostRunningSum) -> RunningSum
 {
     let kept = round_bit_in(s.kept);
     let depth = s.depth;
-    let count = s.count;
     RunningSum {
         kept: kept,
         depth: depth,
-        count: count,
     }
 }
 
@@ -357,7 +354,6 @@ fn sum_out(o: Outcome, w: RoundBitWord, s: RunningSum) -> FrostSumAnswer
     let sum = FrostRunningSum {
         kept: kept,
         depth: s.depth,
-        count: s.count,
     };
     FrostSumAnswer {
         sum: sum,
@@ -679,7 +675,7 @@ pub extern "C" fn frost_running_sum_empty(s: FrostRunningSum) -> FrostSumAnswer
 pub extern "C" fn frost_version() -> u32
     ensures { result ≡ version }
 {
-    40000
+    30100
 }
 
 // Digit texts, block files, readings, block sums and listings.

@@ -1,6 +1,6 @@
--- What is so of each element: of the first, of two lists one behind the other, in another order, what follows from it, and of a list mapped. Assumes nothing.
--- Proved here: `each_first`, `each_before`, `each_behind`, `each_append`, `each_map`, `each_of_map`, `each_permuted`.
-use mathlib.Core.List.{List, [], ◌∷◌, ◌++◌, map, Permᴰ as Permuted}
+-- What is so of each element: of the first, of two lists one behind the other, in another order, and what follows from it. Assumes nothing.
+-- Proved here: `each_first`, `each_before`, `each_behind`, `each_append`, `each_map`, `each_permuted`.
+use mathlib.Core.List.{List, [], ◌∷◌, ◌++◌, Permᴰ as Permuted}
 use mathlib.Core.Path.{subst}
 use Rattle.integers.specs.Lists.{Each}
 use Rattle.integers.specs.Lists.Each.{none, next}
@@ -24,10 +24,6 @@ module _ {A : Type 0} {P : A → Type 0} where
   pub each_map : {Q : A → Type 0} {xs : List A} → ((x : A) → P x → Q x) → Each P xs → Each Q xs
   each_map f none = none
   each_map f (next {x} p ps) = next (f x p) (each_map f ps)
-
-  pub each_of_map : {B : Type 0} (f : B → A) (xs : List B) → Each P (map f xs) → Each (λ x. P (f x)) xs
-  each_of_map f [] h = none
-  each_of_map f (x ∷ xs) (next p ps) = next p (each_of_map f xs ps)
 
   pub each_permuted : {xs ys : List A} → Permuted xs ys → Each P xs → Each P ys
   each_permuted Permuted.nil h = h

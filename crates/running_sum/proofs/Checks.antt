@@ -1,26 +1,23 @@
 -- What the checks of a running sum come to. Assumes nothing.
--- Proved here: `depth_some`, `depth_none`, `depth_passed`, `cut_told`, `put_passed`.
+-- Proved here: `depth_some`, `depth_none`, `depth_passed`, `cut_told`.
 use Prim.Native.Nat.{ℕ, ◌-◌}
 use native.Mathlib.Omega.{arith}
 use mathlib.Core.Path.{◌≡◌, refl, sym, ◌∙◌}
 use mathlib.Core.Bool.{Bool, true, false}
 use lib.Dec.{ltb, eqb}
 use borrow.Author.Tests.{ltb-true, ltb-false, lt-ltb, le-ltb, eqb-false}
-use Rattle.words.specs.Refusals.{refuse_for, differ}
+use Rattle.words.specs.Refusals.{refuse_for}
 use Rattle.words.specs.Formats.{narrower_check}
-use Rattle.words.specs.RoundBit.{round_bit_check}
 use Rattle.words.specs.declared.Cause.{Cause}
-use Rattle.words.specs.declared.Cause.TheVariants.{Mismatch, Depth, Count}
+use Rattle.words.specs.declared.Cause.TheVariants.{Depth}
 use Rattle.words.specs.declared.Outcome.TheVariants.{Done, Refused}
 use Rattle.words.specs.declared.Format.{Format}
-use Rattle.words.specs.declared.RoundBitWord.{RoundBitWord}
-use Rattle.words.proofs.Laws.{refused_not_done, passed, three_passed}
-use Rattle.words.proofs.Operands.{same_format}
+use Rattle.words.proofs.Laws.{refused_not_done}
 use Rattle.round_bit.specs.Cuts.{cut_and_rest_of}
 use Rattle.round_bit.specs.declared.CutAndRestAnswer.{CutAndRestAnswer}
 use Rattle.round_bit.proofs.Checks.{word_outcome}
 use Rattle.running_sum.specs.declared.RunningSum.{RunningSum}
-use Rattle.running_sum.specs.Steps.{most_count, depth_check, running_sum_check, put_check}
+use Rattle.running_sum.specs.Steps.{depth_check, running_sum_check}
 
 -- a depth that is not 0 passes where a cut by it does
 too_deep : (n d : ℕ) → (d ≡ 0 → ⊥) → ltb (n - 2) d ≡ ltb (n - d) 2
@@ -54,12 +51,3 @@ depth_passed f d e = go (eqb d 0) refl
 -- and a hand-out of such a depth is refused where the cut is
 pub cut_told : (s : RunningSum) (a : CutAndRestAnswer) → eqb s.depth 0 ≡ false → a ≡ cut_and_rest_of s.kept s.depth → running_sum_check s ≡ a.outcome
 cut_told s a z e = rw (e, word_outcome, depth_some s.kept.format s.depth z)
-
--- a put that passes its check has a word of the sum's format, a good depth, and room in the count
-pub put_passed : (s : RunningSum) (w : RoundBitWord) → put_check s w ≡ Done →
-    (s.kept.format ≡ w.format) × (depth_check s.kept.format s.depth ≡ Done) × (s.count ≡ most_count → ⊥)
-unfolding put_check
-put_passed s w e =
-    let p = three_passed (round_bit_check s.kept) (round_bit_check w) _ e in
-    let q = three_passed (refuse_for Mismatch (differ s.kept.format w.format)) (depth_check s.kept.format s.depth) _ p.2 in
-    (same_format s.kept.format w.format (passed Mismatch _ q.0), q.1, eqb-false s.count most_count (passed Count _ q.2))

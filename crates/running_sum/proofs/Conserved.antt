@@ -1,5 +1,5 @@
 -- Why nothing creeps: one call of a running sum, and any list of calls. Assumes nothing.
--- Proved here: `by_outcome`, `step_outcome`, `done_step`, `refused_unchanged`, `nothing_value`, `sum_tells`, `step_conserves`, `step_format`, `put_blank`, `hand_out_small`,
+-- Proved here: `step_outcome`, `refused_unchanged`, `nothing_value`, `sum_tells`, `step_conserves`, `step_format`, `put_blank`, `hand_out_small`,
 -- `empty_nothing`, `step_keeps`, `shut_step`.
 use Prim.Native.Nat.{ℕ, ◌^◌, ◌≤◌}
 use mathlib.Core.Path.{◌≡◌, refl, sym, ap, ◌∙◌}
@@ -22,12 +22,12 @@ use Rattle.round_bit.proofs.Laws.Cuts.{cut_done, cut_format, rest_format, rest_d
 use Rattle.round_bit.proofs.Laws.Sums.{sum_format_lem, sum_done, sum_closed, sum_value}
 use Rattle.running_sum.specs.declared.RunningSum.{RunningSum}
 use Rattle.running_sum.specs.Steps.{blank, made, nothing, depth_check, Call, put, hand_out, empty, Step, keeping, stepped, running_sum_check, put_check}
-use Rattle.running_sum.specs.Steps.{counting, step_of}
-use Rattle.running_sum.proofs.Checks.{depth_passed, put_passed}
+use Rattle.running_sum.specs.Steps.{step_of}
+use Rattle.running_sum.proofs.Checks.{depth_passed}
 use Rattle.running_sum.specs.Totals.{amount, taken_in, given_out}
 
 -- ---- a step by its outcome: what holds of the done step if its check passed, and of every refusal, holds of it
-pub by_outcome : (Q : Step → Type 0) (o : Outcome) (w : RoundBitWord) (new old : RunningSum) → (o ≡ Done → Q (record { outcome = Done; word = w; sum = new })) →
+by_outcome : (Q : Step → Type 0) (o : Outcome) (w : RoundBitWord) (new old : RunningSum) → (o ≡ Done → Q (record { outcome = Done; word = w; sum = new })) →
     ((c : Cause) → Q (record { outcome = Refused c; word = blank; sum = old })) → Q (stepped o w new old)
 unfolding stepped
 by_outcome Q Done w new old f g = f refl
@@ -44,7 +44,7 @@ unfolding stepped
 step_outcome Done w new old = refl
 step_outcome (Refused c) w new old = refl
 
-pub done_step : (o : Outcome) (w : RoundBitWord) (new old : RunningSum) → (stepped o w new old).outcome ≡ Done → (o ≡ Done) × ((stepped o w new old).sum ≡ new)
+done_step : (o : Outcome) (w : RoundBitWord) (new old : RunningSum) → (stepped o w new old).outcome ≡ Done → (o ≡ Done) × ((stepped o w new old).sum ≡ new)
 unfolding stepped
 done_step Done w new old e = (refl, refl)
 done_step (Refused c) w new old e = absurd (refused_not_done e)
@@ -76,9 +76,12 @@ nothing_value f = refl
 -- ---- what a done call tells
 put_tells : (s : RunningSum) (w : RoundBitWord) → (put_check s w or_else (sum_of s.kept w).outcome) ≡ Done →
     ((sum_of s.kept w).outcome ≡ Done) × (s.kept.format ≡ w.format)
+unfolding put_check
 put_tells s w e =
     let p = both_passed (put_check s w) (sum_of s.kept w).outcome e in
-    (p.1, (put_passed s w p.0).0)
+    let q = three_passed (round_bit_check s.kept) (round_bit_check w) _ p.0 in
+    let t = both_passed (refuse_for Mismatch (differ s.kept.format w.format)) _ q.2 in
+    (p.1, same_format s.kept.format w.format (passed Mismatch _ t.0))
 
 pub sum_tells : (s : RunningSum) → running_sum_check s ≡ Done → (cut_of s.kept s.depth).outcome ≡ Done
 sum_tells s e =
@@ -100,7 +103,7 @@ step_conserves s (put w) = by_outcome (Balances s (put w)) _ _ _ _ done (λ c. r
     a : RoundBitAnswer
     a = sum_of s.kept w
 
-    done : (put_check s w or_else a.outcome) ≡ Done → Balances s (put w) (record { outcome = Done; word = blank; sum = keeping (counting s) a.word })
+    done : (put_check s w or_else a.outcome) ≡ Done → Balances s (put w) (record { outcome = Done; word = blank; sum = keeping s a.word })
     done e =
         let p = put_tells s w e in
         let v = round_bit_value s.kept in
@@ -180,8 +183,12 @@ abbrev pub shut : RunningSum
 shut = made blank 0
 
 shut_outcome : (c : Call) → (step_of shut c).outcome ≡ Done → ⊥
-unfolding step_of depth_check
-shut_outcome (put w) e = refused_not_done (put_passed shut w (both_passed (put_check shut w) _ (done_step _ _ _ _ e).0).0).1
+unfolding step_of put_check depth_check
+shut_outcome (put w) e =
+    let p = both_passed (put_check shut w) _ (done_step _ _ _ _ e).0 in
+    let q = three_passed (round_bit_check blank) (round_bit_check w) _ p.0 in
+    let t = both_passed (refuse_for Mismatch (differ blank_format w.format)) (depth_check blank_format 0) q.2 in
+    refused_not_done t.1
 shut_outcome hand_out e = refused_not_done (both_passed (round_bit_check blank) (depth_check blank_format 0) (done_step _ _ _ _ e).0).1
 shut_outcome empty e = refused_not_done (both_passed (round_bit_check blank) (depth_check blank_format 0) (done_step _ _ _ _ e).0).1
 

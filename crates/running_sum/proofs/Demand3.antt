@@ -1,11 +1,9 @@
 -- Demand 3: "words accepted = words handed out, each in its own unit, plus what is kept. Right after a hand-out the kept value is at most
--- half a coarse unit. Right after emptying the two totals are equal." And "the count equals the number of accepted puts". For one running sum, from its opening through any calls, refused
+-- half a coarse unit. Right after emptying the two totals are equal." For one running sum, from its opening through any calls, refused
 -- ones among them. The totals are in specs/Totals.antt and know nothing of what is kept. Values are in half units of the sum's unit, so
 -- half a coarse unit is 2 ^ depth. Assumes nothing.
--- Proved here: `totals`, `unchanged`, `never_refused`, `always_refused`, `counted`, `room`, `kept_small`, `totals_near`, `totals_equal`,
--- `demand_3`.
-use Prim.Native.Nat.{ℕ, ◌+◌, ◌^◌, ◌≤◌}
-use native.Mathlib.Omega.{arith}
+-- Proved here: `totals`, `unchanged`, `never_refused`, `always_refused`, `kept_small`, `totals_near`, `totals_equal`, `demand_3`.
+use Prim.Native.Nat.{ℕ, ◌^◌, ◌≤◌}
 use mathlib.Core.Path.{◌≡◌, refl, sym, ap, ◌∙◌, subst}
 use mathlib.Core.List.{List, [], ◌∷◌, ◌++◌}
 use lib.IntN.{ℤ, pos, nat_abs, ◌+ℤ◌, ◌-ℤ◌, +ℤ_idr}
@@ -21,12 +19,9 @@ use Rattle.words.proofs.Laws.{both_passed, right_format, round_bit_passes}
 use Rattle.words.proofs.Rights.{nothing_right}
 use Rattle.running_sum.specs.declared.RunningSum.{RunningSum}
 use Rattle.running_sum.specs.Steps.{nothing, depth_check, open_check, open_answer, open_of, Call, hand_out, empty, running_sum_check, step_of}
-use Rattle.running_sum.specs.Totals.{taken_in, given_out, accepted, handed_out, accepted_puts, answered, left}
+use Rattle.running_sum.specs.Totals.{taken_in, given_out, accepted, handed_out, answered, left}
 use Rattle.running_sum.specs.Demand3.{Demand3}
-use Rattle.running_sum.specs.Counts.{Room}
 use Rattle.running_sum.proofs.Conserved.{step_conserves, step_format, step_keeps, hand_out_small, empty_nothing, shut_step, shut}
-use Rattle.running_sum.proofs.Counts.{only_full}
-use Rattle.running_sum.proofs.Histories.{left_counts, left_within, never_met}
 
 -- ---- any list of calls on any sum: what was kept and what went in is what came out and what is kept then
 regroup : (t a v g w h l : ℤ) → t +ℤ v ≡ g +ℤ w → a +ℤ w ≡ h +ℤ l → (t +ℤ a) +ℤ v ≡ (g +ℤ h) +ℤ l
@@ -84,11 +79,6 @@ unfolding open_answer value
 opened_value Done f d = refl
 opened_value (Refused c) f d = refl
 
-opened_count : (o : Outcome) (f : Format) (d : ℕ) → (open_answer o f d).sum.count ≡ 0
-unfolding open_answer
-opened_count Done f d = refl
-opened_count (Refused c) f d = refl
-
 opened_passes : (f : Format) (d : ℕ) → open_check f d ≡ Done → running_sum_check (open_answer Done f d).sum ≡ Done
 unfolding open_answer
 opened_passes f d e =
@@ -124,23 +114,6 @@ module _ (n : ℕ) (e : ℤ) (d : ℕ) (cs : List Call) where
   -- 4. format and depth never change
   pub unchanged : ((left opened cs).kept.format ≡ opened.kept.format) × ((left opened cs).depth ≡ opened.depth)
   unchanged = left_format opened cs
-
-  -- 5. the count is 0 at first, and equals the number of accepted puts
-  none_yet : opened.count ≡ 0
-  unfolding open_of
-  none_yet = opened_count _ _ d
-
-  pub counted : (left opened cs).count ≡ accepted_puts (answered opened cs)
-  counted = omega (arith, left_counts opened cs, none_yet)
-
-  -- and as long as these are fewer than 2 ^ 32 - 1 no call is refused by 16
-  pub room : Room n e d cs
-  room =
-      record {
-        within = left_within opened cs (omega (arith, none_yet));
-        never_met = λ h. never_met opened cs (omega (arith, h, none_yet));
-        never_next = λ h c e. omega (arith, h, counted, only_full (left opened cs) c e);
-      }
 
   -- after a done opening no call is refused by 1, 2, 3 of what is kept, nor by 5 or 7
   pub never_refused : (open_of n e d).outcome ≡ Done → running_sum_check (left opened cs) ≡ Done
@@ -190,5 +163,4 @@ demand_3 n e d cs =
       small = kept_small n e d cs;
       near = totals_near n e d cs;
       equal = totals_equal n e d cs;
-      counted = counted n e d cs;
     }

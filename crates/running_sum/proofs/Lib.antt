@@ -1,6 +1,4 @@
 pub mod Conserved
-pub mod Counts
-pub mod Histories
 pub mod Demand3
 pub mod Links
 pub mod Checks

@@ -1,18 +1,15 @@
 -- Demand 3 of the code itself. A link is a sum, a call made on it, what it answered, and the sum that came back, in which the answer meets
 -- the contract of the call's method: `Post` is generated from the method's `ensures`. Any chain of links that begins with what an opening
 -- gave, each beginning where the last ended, answers and ends as the definitions do, so the theorem holds of it. Assumes nothing.
--- Proved here: `meets_step`, `linked_refused`, `linked_totals`, `linked_unchanged`, `linked_passes`, `linked_shut`, `linked_counted`,
--- `linked_never_met`, `linked_never_next`, `linked_small`, `linked_near`, `linked_equal`.
-use Prim.Native.Nat.{ℕ, ◌^◌, ◌≤◌, ◌<◌}
-use native.Mathlib.Omega.{arith}
+-- Proved here: `meets_step`, `linked_refused`, `linked_totals`, `linked_unchanged`, `linked_passes`, `linked_shut`, `linked_small`, `linked_near`,
+-- `linked_equal`.
+use Prim.Native.Nat.{ℕ, ◌^◌, ◌≤◌}
 use mathlib.Core.Path.{◌≡◌, refl, sym, ap, ◌∙◌, subst}
 use mathlib.Core.List.{List, [], ◌∷◌, ◌++◌, map}
 use lib.IntN.{ℤ, nat_abs, ◌+ℤ◌, ◌-ℤ◌, +ℤ_idr}
 use Rattle.integers.specs.Chains.{Chain, no_link, link}
-use Rattle.integers.specs.Lists.{Each}
 use Rattle.integers.proofs.Kit.{ints, plus_law, minus_law}
 use Rattle.integers.proofs.Chains.{chain_more}
-use Rattle.words.specs.Refusals.{number_of}
 use Rattle.words.specs.RoundBit.{round_bit_value}
 use Rattle.words.specs.declared.Cause.{Cause}
 use Rattle.words.specs.declared.Outcome.{Outcome}
@@ -23,16 +20,14 @@ use Rattle.running_sum.specs.declared.OpenAnswer.{OpenAnswer}
 use Rattle.running_sum.specs.declared.PutAnswer.{PutAnswer}
 use Rattle.running_sum.specs.declared.HandOutAnswer.{HandOutAnswer}
 use Rattle.running_sum.specs.declared.EmptyAnswer.{EmptyAnswer}
-use Rattle.running_sum.specs.Steps.{Call, put, hand_out, empty, blank, most_count, running_sum_check, step_of, open_of}
-use Rattle.running_sum.specs.Totals.{Answered, accepted, handed_out, accepted_puts, answered, left}
-use Rattle.running_sum.specs.Counts.{NotFull}
+use Rattle.running_sum.specs.Steps.{Call, put, hand_out, empty, blank, running_sum_check, step_of, open_of}
+use Rattle.running_sum.specs.Totals.{Answered, accepted, handed_out, answered, left}
 use Rattle.running_sum.proofs.open.Reads as open-method
 use Rattle.running_sum.proofs.RunningSum.put.Reads as put-method
 use Rattle.running_sum.proofs.RunningSum.hand_out.Reads as hand-out-method
 use Rattle.running_sum.proofs.RunningSum.empty.Reads as empty-method
 use Rattle.running_sum.proofs.Conserved.{put_blank, refused_unchanged, hand_out_small, empty_nothing, shut}
-use Rattle.running_sum.proofs.Counts.{only_full}
-use Rattle.running_sum.proofs.Demand3.{totals, unchanged, counted, room, never_refused, always_refused}
+use Rattle.running_sum.proofs.Demand3.{totals, unchanged, never_refused, always_refused}
 
 -- the answer meets the contract of the method; a put hands back no word
 abbrev pub Meets : RunningSum → Call → Outcome → RoundBitWord → RunningSum → Type 0
@@ -121,28 +116,6 @@ module _ (n : ℕ) (e : ℤ) (d : ℕ) (a : OpenAnswer) (opening : open-method.P
         let same : last ≡ left (open_of n e d).sum (calls done) = r.1 ∙ ap (λ (x : OpenAnswer). left x.sum (calls done)) opening in
         let p = meets_step last c o v t m in
         (λ k. q.0 (ap (λ (s : RunningSum). (step_of s c).outcome) (sym same) ∙ sym p.0 ∙ k), same ∙ q.1)
-
-    -- 5. the count equals the number of accepted puts
-    pub linked_counted : last.count ≡ accepted_puts done
-    linked_counted =
-        let r = links_run chain in
-        let c = subst (λ (o : OpenAnswer). (left o.sum (calls done)).count ≡ accepted_puts (answered o.sum (calls done)))
-        (sym opening) (counted n e d (calls done)) in
-        ap (λ (s : RunningSum). s.count) r.1 ∙ c ∙ ap accepted_puts (sym r.0)
-
-    -- and as long as these are fewer than 2 ^ 32 - 1 no call was refused by 16, nor is the next
-    module _ (few : accepted_puts done < most_count) where
-      pub linked_never_met : Each NotFull done
-      linked_never_met =
-          let r = links_run chain in
-          let met = subst (λ (o : OpenAnswer). accepted_puts (answered o.sum (calls done)) < most_count → Each NotFull (answered o.sum (calls done)))
-          (sym opening) (room n e d (calls done)).never_met in
-          rw r.0 (met (rw (← r.0) few))
-
-      pub linked_never_next : (c : Call) (o : Outcome) (v : RoundBitWord) (t : RunningSum) → Meets last c o v t → number_of o ≡ 16 → ⊥
-      linked_never_next c o v t m z =
-          let p = meets_step last c o v t m in
-          omega (arith, few, linked_counted, only_full last c (ap number_of (sym p.0) ∙ z))
 
     -- 2. right after a done hand-out: the kept value, and so the difference of the totals, is at most half a coarse unit
     module _ (v : RoundBitWord) (t : RunningSum) (m : Meets last hand_out Done v t) where

@@ -1,12 +1,11 @@
--- Demand 3 of the README, of the sum that an opening gave, done or refused, and of any calls on it;
--- its last sentence is of document 02, Ask 10.
+-- Demand 3 of the README, of the sum that an opening gave, done or refused, and of any calls on it.
 -- In half units of the sum, half a coarse unit is 2 ^ depth.
 use Rattle.integers.specs.Names.{ℕ, ◌^◌, ◌≤◌, ◌≡◌, List, [], ◌∷◌, ◌++◌, ℤ, nat_abs, ◌+ℤ◌, ◌-ℤ◌}
 use Rattle.words.specs.declared.Outcome.TheVariants.{Done}
 use Rattle.words.specs.RoundBit.{round_bit_value}
 use Rattle.running_sum.specs.declared.RunningSum.{RunningSum}
 use Rattle.running_sum.specs.Steps.{open_of, Call, hand_out, empty, step_of}
-use Rattle.running_sum.specs.Totals.{answered, left, accepted, handed_out, accepted_puts}
+use Rattle.running_sum.specs.Totals.{answered, left, accepted, handed_out}
 
 module _ (n : ℕ) (e : ℤ) (d : ℕ) where
   abbrev pub opened : RunningSum
@@ -21,9 +20,6 @@ module _ (n : ℕ) (e : ℤ) (d : ℕ) where
   abbrev pub kept_after : List Call → ℤ
   kept_after cs = round_bit_value (left opened cs).kept
 
-  abbrev pub count_after : List Call → ℕ
-  count_after cs = (left opened cs).count
-
   pub record Demand3 (cs : List Call) : Type 0 where
     -- "words accepted = words handed out, each in its own unit, plus what is kept."
     pub nothing_lost : total_in cs ≡ total_out cs +ℤ kept_after cs
@@ -36,5 +32,3 @@ module _ (n : ℕ) (e : ℤ) (d : ℕ) where
     -- "Right after emptying the two totals are equal."
     pub equal : (step_of (left opened cs) empty).outcome ≡ Done →
         total_in (cs ++ empty ∷ []) ≡ total_out (cs ++ empty ∷ [])
-    -- "the count equals the number of accepted puts."
-    pub counted : count_after cs ≡ accepted_puts (answered opened cs)

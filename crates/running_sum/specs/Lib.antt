@@ -1,4 +1,3 @@
 pub mod Steps
 pub mod Totals
 pub mod Demand3
-pub mod Counts

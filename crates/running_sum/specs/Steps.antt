@@ -1,6 +1,5 @@
--- Document 01, "The running sum", with the count of document 02, Ask 10: opening, and one call on any
--- running sum.
-use Rattle.integers.specs.Names.{ℕ, ◌+◌, ◌-◌, ◌||◌, eqb, ltb, ℤ, pos, ◌+ℤ◌}
+-- Document 01, "The running sum": opening, and one call on any running sum.
+use Rattle.integers.specs.Names.{ℕ, ◌-◌, ◌||◌, eqb, ltb, ℤ, pos, ◌+ℤ◌}
 use Rattle.words.specs.declared.Outcome.{Outcome}
 use Rattle.words.specs.declared.Outcome.TheVariants.{Done, Refused}
 use Rattle.words.specs.declared.Format.{Format}
@@ -24,14 +23,9 @@ blank = round_bit_word (pos 0) 0 blank_format
 abbrev pub nothing : Format → RoundBitWord
 nothing f = round_bit_word (pos 0) 0 f
 
--- a running sum is made here, before any word was accepted, and by `keeping` and `counting` below
--- from another
+-- a running sum is made here, and by `keeping` below from another
 abbrev pub made : RoundBitWord → ℕ → RunningSum
-made w d = record { kept = w; depth = d; count = 0 }
-
--- "as a 32-bit count": the greatest there is, 2 ^ 32 - 1
-abbrev pub most_count : ℕ
-most_count = 4294967295
+made w d = record { kept = w; depth = d }
 
 -- 5: "a running sum has, or is opened with, a depth of 0 or more than its width less 2"; then 7, of
 -- the coarse unit
@@ -44,7 +38,7 @@ abbrev pub open_check : Format → ℕ → Outcome
 open_check f d = format_check f or_else depth_check f d
 
 -- "it keeps a round-bit word of width N and unit e, at first (0,0)". Refused, "it then gives a sum
--- that keeps the blank word at depth 0". Ask 10: "a refused opening has 0", as a done one
+-- that keeps the blank word at depth 0"
 unfoldable pub open_answer : Outcome → Format → ℕ → OpenAnswer
 open_answer Done f d = record { outcome = Done; sum = made (nothing f) d }
 open_answer (Refused c) f d = record { outcome = Refused c; sum = made blank 0 }
@@ -68,11 +62,7 @@ pub record Step : Type 0 where
 
 -- the same sum with another word kept
 abbrev pub keeping : RunningSum → RoundBitWord → RunningSum
-keeping s w = record { kept = w; depth = s.depth; count = s.count }
-
--- the same sum with one word more accepted
-abbrev pub counting : RunningSum → RunningSum
-counting s = record { kept = s.kept; depth = s.depth; count = s.count + 1 }
+keeping s w = record { kept = w; depth = s.depth }
 
 -- done, with a word and the new sum; or a refusal, with the blank word and the sum as it was
 unfoldable pub stepped : Outcome → RoundBitWord → RunningSum → RunningSum → Step
@@ -84,20 +74,17 @@ abbrev pub running_sum_check : RunningSum → Outcome
 running_sum_check s = round_bit_check s.kept or_else depth_check s.kept.format s.depth
 
 -- "Put may also refuse 1, 2, 3 of the word, 4 and 8": after the sum's 1, 2, 3 those of the word,
--- then the lowest of 4, 5 and 7; 8 comes last, in `step_of`. Ask 10: "16 for a put when the count is
--- 4,294,967,295, checked after 7 and before 8"
+-- then the lowest of 4, 5 and 7; 8 comes last, in `step_of`
 unfoldable pub put_check : RunningSum → RoundBitWord → Outcome
 put_check s w =
     round_bit_check s.kept or_else round_bit_check w
     or_else refuse 4 (differ s.kept.format w.format)
     or_else depth_check s.kept.format s.depth
-    or_else refuse 16 (eqb s.count most_count)
 
--- a done put counts its word; "Hand out and Empty leave it", the count
 unfoldable pub step_of : RunningSum → Call → Step
 step_of s (put w) =
     let a = sum_of s.kept w in
-    stepped (put_check s w or_else a.outcome) blank (keeping (counting s) a.word) s
+    stepped (put_check s w or_else a.outcome) blank (keeping s a.word) s
 step_of s hand_out =
     stepped (running_sum_check s) (cut_of s.kept s.depth).word
     (keeping s (rest_of s.kept s.depth).word) s

@@ -1,6 +1,6 @@
 -- Demand 3: a list of calls on a running sum, and the two totals, from the calls, their answers and
--- the sum's unit alone; and the number of accepted puts, from the calls and their answers.
-use Rattle.integers.specs.Names.{ℕ, ◌+◌, ◌^◌, List, [], ◌∷◌, ℤ, pos, negsuc, ◌+ℤ◌, ◌-ℤ◌, ◌*ℤ◌}
+-- the sum's unit alone.
+use Rattle.integers.specs.Names.{ℕ, ◌^◌, List, [], ◌∷◌, ℤ, pos, negsuc, ◌+ℤ◌, ◌-ℤ◌, ◌*ℤ◌}
 use Rattle.words.specs.declared.Outcome.{Outcome}
 use Rattle.words.specs.declared.Outcome.TheVariants.{Done, Refused}
 use Rattle.words.specs.declared.RoundBitWord.{RoundBitWord}
@@ -58,14 +58,3 @@ accepted e (a ∷ rest) = taken_in e a.call a.outcome +ℤ accepted e rest
 unfoldable pub handed_out : ℤ → List Answered → ℤ
 handed_out e [] = pos 0
 handed_out e (a ∷ rest) = given_out e a.call a.outcome a.word +ℤ handed_out e rest
-
--- Ask 10, "the number of accepted puts": of each call 1 if it is a put that was done, and else 0
-unfoldable pub accepted_put : Call → Outcome → ℕ
-accepted_put (put w) Done = 1
-accepted_put (put w) (Refused c) = 0
-accepted_put hand_out o = 0
-accepted_put empty o = 0
-
-unfoldable pub accepted_puts : List Answered → ℕ
-accepted_puts [] = 0
-accepted_puts (a ∷ rest) = accepted_put a.call a.outcome + accepted_puts rest

@@ -3,25 +3,20 @@
 // It keeps one round-bit word. A put adds to it; a hand-out cuts it to the coarse unit, and what the
 // cut dropped stays kept, its round bit too; emptying hands out all. So the words accepted are always
 // the words handed out plus what is kept, however long it runs: specs/Demand3.antt says it, and
-// `demand_3` in proofs/Demand3.antt and, of this code, proofs/Links.antt prove it. It also counts the
-// words accepted since it was opened; a put into a sum whose count is full is refused.
+// `demand_3` in proofs/Demand3.antt and, of this code, proofs/Links.antt prove it.
 //
 // A sum goes in by value and comes back by value. Every call takes any sum, also one that no opening
 // made, and a refused call leaves the sum as it was, digit for digit.
-ghost use Rattle.std.specs.Prelude.{◌≡◌, ◌<◌};
+ghost use Rattle.std.specs.Prelude.{◌≡◌};
 ghost use Rattle.words.specs.Refusals.{blank_format};
-ghost use Rattle.running_sum.specs.Steps.{blank, made, most_count, depth_check, open_check, open_answer, open_of, put, hand_out, empty, step_of, running_sum_check, put_check, keeping, counting, put_answer, hand_out_answer, empty_answer};
+ghost use Rattle.running_sum.specs.Steps.{blank, made, depth_check, open_check, open_answer, open_of, put, hand_out, empty, step_of, running_sum_check, put_check, keeping, put_answer, hand_out_answer, empty_answer};
 
 use words::{Cause, Format, Outcome, RoundBit, RoundBitWord};
-
-// The greatest count, 2^32 - 1.
-pub const MOST_COUNT: u32 = 4294967295;
 
 #[derive(Drop)]
 pub struct RunningSum {
     pub kept: RoundBitWord,
     pub depth: u64,
-    pub count: u32,
 }
 
 // The answer of an opening: a refused one keeps the blank word at depth 0.
@@ -76,40 +71,20 @@ fn open_check(f: Format, d: u64) -> Outcome
     }
 }
 
-// A running sum is made here, and from another by `keeping`, `counting` and an emptying.
+// A running sum is made here, and by `keeping` from another.
 fn opened(w: RoundBitWord, d: u64) -> RunningSum
     ensures { result ≡ made w d }
 {
-    RunningSum {
-        kept: w,
-        depth: d,
-        count: 0,
-    }
+    RunningSum { kept: w, depth: d }
 }
 
 fn keeping(s: RunningSum, w: RoundBitWord) -> RunningSum
     ensures { result ≡ keeping s w }
 {
     let depth = s.depth;
-    let count = s.count;
     RunningSum {
         kept: w,
         depth: depth,
-        count: count,
-    }
-}
-
-// One word more was accepted.
-fn counting(s: RunningSum) -> RunningSum
-    requires { s.count < most_count }
-    ensures { result ≡ counting s }
-{
-    let kept = s.kept;
-    let depth = s.depth;
-    RunningSum {
-        kept: kept,
-        depth: depth,
-        count: s.count + 1,
     }
 }
 
@@ -163,7 +138,7 @@ fn running_sum_check(s: RunningSum) -> Outcome
     }
 }
 
-// All that a put asks but the sum's own 8: the lowest of 4, 5 and 7 comes after both words' 1, 2, 3, and then 16.
+// All that a put asks but the sum's own 8: the lowest of 4, 5 and 7 comes after both words' 1, 2, 3.
 fn put_check(s: RunningSum, w: RoundBitWord) -> Outcome
     ensures { result ≡ put_check s w }
 {
@@ -176,10 +151,8 @@ fn put_check(s: RunningSum, w: RoundBitWord) -> Outcome
         words::differ(s.kept.format, w.format),
     ) {
         Outcome::Refused(c)
-    } else if let Outcome::Refused(c) = depth_check(s.kept.format, s.depth) {
-        Outcome::Refused(c)
     } else {
-        words::refuse_for(Cause::Count, s.count == MOST_COUNT)
+        depth_check(s.kept.format, s.depth)
     }
 }
 
@@ -246,20 +219,19 @@ fn empty_done(w: RoundBitWord, s: RunningSum) -> EmptyAnswer
 }
 
 impl RunningSum {
-    // Put: kept becomes the sum of kept and the word, and the word is counted.
+    // Put: kept becomes the sum of kept and the word.
     pub fn put(mut self, word: RoundBitWord) -> PutAnswer
         ensures { result ≡ put_answer (step_of self (put word)) }
     {
         if let Outcome::Refused(c) = put_check(self, word) {
             put_refused(c, self)
         } else {
-            let counted = counting(self);
             let a = round_bit::sum(self.kept, word);
             let fit = a.outcome;
-            if let Outcome::Refused(past) = fit {
-                put_refused(past, self)
+            if let Outcome::Refused(c) = fit {
+                put_refused(c, self)
             } else {
-                self = keeping(counted, a.word);
+                self = keeping(self, a.word);
                 put_done(self)
             }
         }
@@ -307,13 +279,7 @@ impl RunningSum {
                 number: zero,
                 format: f,
             };
-            let depth = self.depth;
-            let count = self.count;
-            self = RunningSum {
-                kept: nothing,
-                depth: depth,
-                count: count,
-            };
+            self = keeping(self, nothing);
             empty_done(word, self)
         }
     }

@@ -1,6 +1,6 @@
 -- What the checks of two operands and the refusal 8 tell, and that a done answer passed its check, for every kind of word. Assumes nothing.
 -- Proved here: `same_format`, `format_same`, `both_right`, `right_both`, `fit_passed`, `fit_passes`, `done_passed`, `done_fits`, `outcome_kept`,
--- `never_after`, `operands_right`, `right_operands`, `first`, `second`, `carry`, `two`, `all`, `sums`, `wider_right`.
+-- `operands_right`, `right_operands`, `first`, `second`, `carry`, `two`, `all`, `sums`, `wider_right`.
 use Prim.Native.Nat.{ℕ, ◌-◌, ◌^◌, ◌<◌, ◌≤◌}
 use native.Mathlib.Omega.{arith}
 use mathlib.Core.Path.{◌≡◌, refl, sym, ◌∙◌}
@@ -22,7 +22,7 @@ use Rattle.words.specs.declared.Cause.TheVariants.{Mismatch, NumberPast}
 use Rattle.words.specs.declared.Outcome.{Outcome}
 use Rattle.words.specs.declared.Outcome.TheVariants.{Done, Refused}
 use Rattle.words.specs.declared.Format.{Format}
-use Rattle.words.proofs.Laws.{passed, both_passed, three_passed, both_pass, refused_not_done, Never, RightFormat, Right, right, word_right, small, machine}
+use Rattle.words.proofs.Laws.{passed, both_passed, three_passed, both_pass, refused_not_done, RightFormat, Right, right, word_right, small, machine}
 use Rattle.words.proofs.Formats.{answer_right}
 
 -- ---- operands of one format, both ways
@@ -71,11 +71,6 @@ module _ {A : Type 0} (refused : Cause → A) (outcome : A → Outcome) (told : 
   pub outcome_kept : (o : Outcome) (a : A) → outcome a ≡ Done → outcome (after refused o a) ≡ o
   outcome_kept Done a e = e
   outcome_kept (Refused c) a e = told c
-
-  -- and what neither the check nor the answer behind it ever is, the answer after the check never is
-  pub never_after : {n : ℕ} (o : Outcome) (a : A) → Never n o → Never n (outcome a) → Never n (outcome (after refused o a))
-  never_after Done a f g = g
-  never_after (Refused c) a f g = rw (told c) f
 
 -- ---- the check of two operands that must have one format, both ways
 pub operands_right : (f : Format) (x : ℤ) (r : ℕ) (g : Format) (y : ℤ) (s : ℕ) →

@@ -6,7 +6,7 @@ use Rattle.words.specs.declared.Cause.{Cause}
 use Rattle.words.specs.declared.Cause.TheVariants.{Width, Unit, Number, Mismatch}
 use Rattle.words.specs.declared.Cause.TheVariants.{Depth, WidthPast, UnitPast, NumberPast}
 use Rattle.words.specs.declared.Cause.TheVariants.{DigitText, Buffer, Mark, Form}
-use Rattle.words.specs.declared.Cause.TheVariants.{Byte, Run, NotFinite, Count, Channel}
+use Rattle.words.specs.declared.Cause.TheVariants.{Byte, Run, NotFinite, Channel}
 use Rattle.words.specs.declared.Outcome.{Outcome}
 use Rattle.words.specs.declared.Outcome.TheVariants.{Done, Refused}
 use Rattle.words.specs.declared.Format.{Format}
@@ -14,15 +14,14 @@ use Rattle.words.specs.declared.WriteAnswer.{WriteAnswer}
 use Rattle.words.specs.Words.{bad_width, bad_unit, outside, bad_round_bit}
 
 -- the table: each cause once, and below the number of each, which docs/REFUSALS.md has in words.
--- The last five are document 02's. Ask 3: "a byte outside the three is 13, repeated signs stay 9";
+-- The last four are document 02's. Ask 3: "a byte outside the three is 13, repeated signs stay 9";
 -- Ask 4: "14 for a run that is empty or passes the end of the block";
 -- Ask 6: "15 for an infinity or a not-a-number";
--- Ask 10: "16 for a put when the count is 4,294,967,295";
 -- Ask 1: "17 for a channel over 3"
 abbrev pub causes : List Cause
 causes =
     Width ∷ Unit ∷ Number ∷ Mismatch ∷ Depth ∷ WidthPast ∷ UnitPast ∷ NumberPast
-    ∷ DigitText ∷ Buffer ∷ Mark ∷ Form ∷ Byte ∷ Run ∷ NotFinite ∷ Count ∷ Channel ∷ []
+    ∷ DigitText ∷ Buffer ∷ Mark ∷ Form ∷ Byte ∷ Run ∷ NotFinite ∷ Channel ∷ []
 
 abbrev pub cause_number : Cause → ℕ
 cause_number Width = 1
@@ -40,7 +39,6 @@ cause_number Form = 12
 cause_number Byte = 13
 cause_number Run = 14
 cause_number NotFinite = 15
-cause_number Count = 16
 cause_number Channel = 17
 
 -- "Done is 0."

@@ -33,7 +33,6 @@ pub enum Cause {
     Byte,
     Run,
     NotFinite,
-    Count,
     Channel,
 }
 
@@ -131,7 +130,6 @@ fn cause_number(c: Cause) -> u32
         Cause::Byte => 13,
         Cause::Run => 14,
         Cause::NotFinite => 15,
-        Cause::Count => 16,
         Cause::Channel => 17,
     }
 }

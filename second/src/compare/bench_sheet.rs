@@ -1,8 +1,7 @@
 //! The bench sheet of document 01, line by line. Here both programs are held
 //! against the document's own answers, not only against each other; so its
 //! numbers stand here as they stand there, and not under the model's names.
-//! What the texts answer beside these, the place, is document 02's, Ask 3, and the
-//! count of a running sum its Ask 10.
+//! What the texts answer beside these, the place, is document 02's, Ask 3.
 
 use super::blocks;
 use super::call::compare;
@@ -142,50 +141,34 @@ fn half_units(r: &mut Record) {
     two("widths 32 and 31", product, wide, less, fields(0, 0, 63, -1), r);
 }
 
-/// P14, from its opening, and from a sum that is handed in with so great a count that
-/// its three puts are the last that can be.
+/// P14: the words put, those handed out, and those kept after it.
 fn running_sum(record: &mut Record) {
-    let opened = running(0, 0, 0);
-    let open = compare(OPEN, &Case::on(opened, Operand::BLANK), record);
+    let sum = |number, round| RunningSum::made(RoundBit::made(fields(number, round, 8, 0)), 2);
+    let first = ((3, 0), (0, 1), (-1, 0));
+    let second = ((3, 0), (0, 1), (-2, 0));
+    let third = ((0, 1), (-1, 1), (-2, 1));
+    let mut kept = sum(0, 0);
+    let open = compare(OPEN, &Case::on(kept, Operand::BLANK), record);
     expect("P14, opened", open, 0, BLANK, record);
-    left("P14, opened", open, opened, record);
-    for count in [0, 4_294_967_292] {
-        three_puts(count, record);
-    }
-}
-
-/// What is kept in P14, and the count, which is document 02's, Ask 10.
-fn running(number: i128, round: i128, count: i128) -> RunningSum {
-    RunningSum::made(RoundBit::made(fields(number, round, 8, 0)), 2, count)
-}
-
-fn left(line: &str, reply: Reply, sum: RunningSum, record: &mut Record) {
-    record.check(reply.sum == Some(sum), || {
-        format!(
-            "bench sheet, {}\n  library: {:?}\n  sheet:   {:?}",
-            line, reply, sum
-        )
-    });
-}
-
-/// The words put, those kept then, those handed out, and those kept after it.
-fn three_puts(count: i128, record: &mut Record) {
-    let first = ((3, 0), (3, 0), (0, 1), (-1, 0));
-    let second = ((3, 0), (2, 0), (0, 1), (-2, 0));
-    let third = ((0, 1), (-2, 1), (-1, 1), (-2, 1));
-    let mut kept = running(0, 0, count);
-    let mut puts = count;
-    for (put, filled, out, rest) in [first, second, third] {
-        puts += 1;
+    for (put, out, left) in [first, second, third] {
         let reply = compare(PUT, &Case::on(kept, word(8, put.0, put.1)), record);
         expect("P14, put", reply, 0, BLANK, record);
-        kept = running(filled.0, filled.1, puts);
-        left("P14, put", reply, kept, record);
-        let reply = compare(HAND_OUT, &Case::on(kept, Operand::BLANK), record);
-        let out = fields(out.0, out.1, 6, 2);
-        expect("P14, handed out", reply, 0, out, record);
-        kept = running(rest.0, rest.1, puts);
-        left("P14, handed out", reply, kept, record);
+        let filled = reply.sum.expect("a running sum in the answer");
+        let reply = compare(HAND_OUT, &Case::on(filled, Operand::BLANK), record);
+        expect(
+            "P14, handed out",
+            reply,
+            0,
+            fields(out.0, out.1, 6, 2),
+            record,
+        );
+        kept = sum(left.0, left.1);
+        record.check(reply.sum == Some(kept), || {
+            format!(
+                "bench sheet, P14\n  library: {:?}\n  sheet:   {:?}",
+                reply, kept
+            )
+        });
     }
 }
 

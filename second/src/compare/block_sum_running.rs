@@ -1,6 +1,6 @@
 //! The same records put into a running sum of the library's, from left to right, and
 //! emptied: where no put is refused it hands back the block sum's word, and a put is
-//! refused just where the sum of that step is. Its count is that of the records put.
+//! refused just where the sum of that step is.
 
 use super::block_sum_case::BlockSumCase;
 use super::block_sum_laws::hold;
@@ -73,7 +73,7 @@ fn put_all(case: &BlockSumCase, depth: u64, block: BlockSumAnswer, record: &mut 
     let mut running: RunningSum = opened.expect("a running sum in the answer");
     // The sums of the same words, from left to right.
     let mut so_far = Some(nothing);
-    for (before, (&number, &round)) in case.numbers.iter().zip(case.rounds).enumerate() {
+    for (&number, &round) in case.numbers.iter().zip(case.rounds) {
         let word = Operand {
             number,
             round,
@@ -89,12 +89,10 @@ fn put_all(case: &BlockSumCase, depth: u64, block: BlockSumAnswer, record: &mut 
                 so_far
             )
         });
-        running = reply.sum.expect("a running sum in the answer");
-        let put = before + (reply.refusal == 0) as usize;
-        counted(case, put, running, record);
         if reply.refusal != 0 || so_far.is_none() {
             return false;
         }
+        running = reply.sum.expect("a running sum in the answer");
     }
     let emptied = compare(EMPTY, &Case::on(running, Operand::BLANK), record);
     let as_sum = so_far.map(Operand::fields) == Some(emptied.word);
@@ -107,19 +105,5 @@ fn put_all(case: &BlockSumCase, depth: u64, block: BlockSumAnswer, record: &mut 
             block
         )
     });
-    let left = emptied.sum.expect("a running sum in the answer");
-    counted(case, case.numbers.len(), left, record);
     true
-}
-
-/// A record that is refused is not counted, and emptying leaves the count.
-fn counted(case: &BlockSumCase, put: usize, running: RunningSum, record: &mut Record) {
-    record.check(running.count == put as i128, || {
-        format!(
-            "the count is that of the records put\n  case:    {}\n  library: {:?}\n  put:     {}",
-            case.describe(),
-            running,
-            put
-        )
-    });
 }

@@ -15,14 +15,12 @@ pub struct Operand {
     pub unit: i32,
 }
 
-/// What an operation is given. For a running sum `first` is the kept word, `depth`
-/// its depth and `count` its count; opening takes width and unit of `first` and
-/// the depth alone.
+/// What an operation is given. For a running sum `first` is the kept word and
+/// `depth` its depth; opening takes width and unit of `first` alone.
 #[derive(Clone, Copy, Debug)]
 pub struct Case {
     pub first: Operand,
     pub depth: u64,
-    pub count: u32,
     pub second: Operand,
 }
 
@@ -40,7 +38,6 @@ pub struct Takes {
     pub number: bool,
     pub round: bool,
     pub depth: bool,
-    pub count: bool,
     pub second: bool,
 }
 
@@ -49,7 +46,6 @@ pub const ROUND_BIT_WORD: Takes = Takes {
     number: true,
     round: true,
     depth: false,
-    count: false,
     second: false,
 };
 
@@ -94,7 +90,6 @@ impl Case {
         Case {
             first,
             depth: 0,
-            count: 0,
             second: Operand::BLANK,
         }
     }
@@ -118,14 +113,13 @@ impl Case {
         Case {
             first: Operand::of(sum.kept.fields()),
             depth: sum.depth as u64,
-            count: sum.count as u32,
             second: word,
         }
     }
 
     /// The running sum that the call is made on.
     pub fn sum(&self) -> RunningSum {
-        RunningSum::made(self.first.word(), self.depth as i128, self.count as i128)
+        RunningSum::made(self.first.word(), self.depth as i128)
     }
 
     /// Only the operands that the operation takes.
@@ -133,9 +127,6 @@ impl Case {
         let mut text = format!("first {:?}", self.first);
         if takes.depth {
             text += &format!(", depth {}", self.depth);
-        }
-        if takes.count {
-            text += &format!(", count {}", self.count);
         }
         if takes.second {
             text += &format!(", second {:?}", self.second);

@@ -117,7 +117,6 @@ impl OfModel for FrostTextAnswer {
 pub struct FrostRunningSum {
     pub kept: FrostRoundBit,
     pub depth: u64,
-    pub count: u32,
 }
 
 impl OfModel for FrostRunningSum {
@@ -127,12 +126,11 @@ impl OfModel for FrostRunningSum {
         FrostRunningSum {
             kept: OfModel::of(model.kept),
             depth: model.depth as u64,
-            count: model.count as u32,
         }
     }
 
     fn model(self) -> RunningSum {
-        RunningSum::made(self.kept.model(), self.depth as i128, self.count as i128)
+        RunningSum::made(self.kept.model(), self.depth as i128)
     }
 }
 

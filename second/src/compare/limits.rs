@@ -3,7 +3,7 @@
 
 use crate::model::kinds::{kind_of, Kind, KINDS};
 use crate::model::layout::{layout_for, Layout, LAYOUTS};
-use crate::model::{block_sum, reading, running_sum, words};
+use crate::model::{block_sum, reading, words};
 
 pub const LEAST_WIDTH: u32 = words::LEAST_WIDTH as u32;
 pub const MOST_WIDTH: u32 = words::MOST_WIDTH as u32;
@@ -35,9 +35,6 @@ pub const READING_WIDTHS: u64 = (MOST_READING_WIDTH - LEAST_WIDTH + 1) as u64;
 
 /// Block sums have theirs too.
 pub const MOST_BLOCK_SUM_WIDTH: u32 = block_sum::MOST_WIDTH as u32;
-
-/// A sum of this count takes no word more.
-pub const MOST_SUM_COUNT: u32 = running_sum::MOST_COUNT as u32;
 
 /// The version after the last, which is none, in its lower byte.
 pub const NO_VERSION: u8 = LAYOUTS.len() as u8 + 1;

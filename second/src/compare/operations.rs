@@ -23,7 +23,6 @@ const fn takes(round: bool, depth: bool, second: bool) -> Takes {
         number: true,
         round,
         depth,
-        count: false,
         second,
     }
 }
@@ -34,14 +33,7 @@ const ROUND_BITS: Takes = takes(true, false, true);
 const OTHER: Takes = takes(false, false, false);
 const OTHER_DEPTH: Takes = takes(false, true, false);
 const OTHERS: Takes = takes(false, false, true);
-const SUM_ALONE: Takes = Takes {
-    count: true,
-    ..ROUND_BIT_DEPTH
-};
-const SUM_AND_WORD: Takes = Takes {
-    second: true,
-    ..SUM_ALONE
-};
+const SUM_AND_WORD: Takes = takes(true, true, true);
 const FORMAT_DEPTH: Takes = Takes {
     number: false,
     ..takes(false, true, false)
@@ -126,9 +118,9 @@ pub const OPERATIONS: &[Operation] = &[
         (c.first.width as i128, c.first.unit as i128, c.depth as i128)),
     row!(SUM_AND_WORD, frost_running_sum_put, running_sum::put, OF_PUT,
         |c| (OfModel::of(c.sum()), c.second.for_library()), (c.sum(), c.second.word())),
-    row!(SUM_ALONE, frost_running_sum_hand_out, running_sum::hand_out, OF_CUT,
+    row!(ROUND_BIT_DEPTH, frost_running_sum_hand_out, running_sum::hand_out, OF_CUT,
         |c| (OfModel::of(c.sum())), (c.sum())),
-    row!(SUM_ALONE, frost_running_sum_empty, running_sum::empty, OF_CUT,
+    row!(ROUND_BIT_DEPTH, frost_running_sum_empty, running_sum::empty, OF_CUT,
         |c| (OfModel::of(c.sum())), (c.sum())),
 ];
 

@@ -2,7 +2,6 @@
 
 use super::call::compare;
 use super::case::{Case, Operand, Takes};
-use super::count_values;
 use super::job::Job;
 use super::limits::*;
 use super::operations::OPERATIONS;
@@ -39,7 +38,7 @@ fn random_cases(seed: u64, row: usize, record: &mut Record) {
     }
 }
 
-pub fn random_case(random: &mut Random, takes: Takes) -> Case {
+fn random_case(random: &mut Random, takes: Takes) -> Case {
     let first = word(random);
     let second = if takes.second {
         second_word(random, first)
@@ -49,11 +48,6 @@ pub fn random_case(random: &mut Random, takes: Takes) -> Case {
     Case {
         first,
         depth: depth(random, first),
-        count: if takes.count {
-            count_values::any(random)
-        } else {
-            0
-        },
         second,
     }
 }

@@ -3,8 +3,8 @@
 use crate::model::causes::*;
 
 /// Why a number can occur: a word as operand gives 1, 2, 3; a sum 4 and 8; a
-/// cut 5 and 7; a wider answer 6 and 7; a lent buffer 10; a count 16. Widening and
-/// the products always fit, so they have no 8, and the cuts get no wider, so no 6.
+/// cut 5 and 7; a wider answer 6 and 7; a lent buffer 10. Widening and the
+/// products always fit, so they have no 8, and the cuts get no wider, so no 6.
 /// The bank's widths are set, so it has no 5 and no 6, and its total always
 /// fits, so no 8.
 macro_rules! and_of_words {
@@ -21,16 +21,10 @@ pub const OF_CUT: &[u32] = and_of_words![DEPTH_OUTSIDE, ANSWER_UNIT_OUTSIDE];
 pub const OF_MOVES: &[u32] = and_of_words![DEPTH_OUTSIDE, ANSWER_UNIT_OUTSIDE];
 pub const OF_WIDER: &[u32] = and_of_words![ANSWER_TOO_WIDE, ANSWER_UNIT_OUTSIDE];
 pub const OF_FIT: &[u32] = and_of_words![ANSWER_DOES_NOT_FIT];
-/// Only a put looks at the count: handing out and emptying give no 16.
-pub const OF_PUT: &[u32] = and_of_words![
-    OPERANDS_DIFFER,
-    DEPTH_OUTSIDE,
-    ANSWER_UNIT_OUTSIDE,
-    ANSWER_DOES_NOT_FIT,
-    COUNT_AT_LIMIT
-];
-/// Opening takes a width, a unit and a depth, and no number: no 3; the count that it
-/// gives is 0: no 16.
+#[rustfmt::skip]
+pub const OF_PUT: &[u32] =
+    and_of_words![OPERANDS_DIFFER, DEPTH_OUTSIDE, ANSWER_UNIT_OUTSIDE, ANSWER_DOES_NOT_FIT];
+/// Opening takes a width, a unit and a depth, and no number: no 3.
 #[rustfmt::skip]
 pub const OF_OPENING: &[u32] =
     &[WIDTH_OUTSIDE, UNIT_OUTSIDE, DEPTH_OUTSIDE, ANSWER_UNIT_OUTSIDE];

@@ -1,6 +1,6 @@
 //! Document 01, section "Refusal numbers": the table, with what document 02
-//! adds to it (13, 14, 15, 16 and 17) and changes in it (9), and the order in
-//! which several causes are named.
+//! adds to it (13, 14, 15 and 17) and changes in it (9), and the order in which
+//! several causes are named.
 //! Written from documents 01 and 02 alone; it shares nothing with crates/.
 
 /// Makes a name of each number, and the list of them all.
@@ -33,7 +33,6 @@ causes! {
     13 BYTE_WRONG,
     14 RUN_WRONG,
     15 NOT_FINITE,
-    16 COUNT_AT_LIMIT,
     17 CHANNEL_OUTSIDE,
 }
 

@@ -1,36 +1,25 @@
-//! Document 01, section "The running sum", with the count of document 02, Ask 10.
-//! Written from documents 01 and 02 alone; it shares nothing with crates/.
+//! Document 01, section "The running sum".
+//! Written from document 01 alone; it shares nothing with crates/.
 
 use super::causes::*;
 use super::round_bit::{cause_of_difference, cut, neutral, rest, sum};
 use super::words::*;
 
-/// Ask 10: "Refusals: 16 for a put when the count is 4,294,967,295". It is the
-/// greatest number of 32 bits, so a done put always has a number to go to.
-pub const MOST_COUNT: i128 = 4_294_967_295;
-
 #[derive(Clone, Copy, Debug, PartialEq, Eq)]
 pub struct RunningSum {
     pub kept: RoundBit,
     pub depth: i128,
-    /// Ask 10: "the number of words accepted since it was opened".
-    pub count: i128,
 }
 
 impl RunningSum {
     /// Every running sum is made here.
-    pub fn made(kept: RoundBit, depth: i128, count: i128) -> RunningSum {
-        RunningSum { kept, depth, count }
+    pub fn made(kept: RoundBit, depth: i128) -> RunningSum {
+        RunningSum { kept, depth }
     }
 
-    /// The same sum with another word kept: "Hand out and Empty leave" the count.
+    /// The same sum with another word kept.
     fn keeping(self, kept: RoundBit) -> RunningSum {
         RunningSum { kept, ..self }
-    }
-
-    /// A sum that has accepted one word more.
-    fn accepting(self, kept: RoundBit) -> RunningSum {
-        RunningSum::made(kept, self.depth, self.count + 1)
     }
 
     /// 1, 2 and 3 of the kept word.
@@ -47,12 +36,6 @@ impl RunningSum {
         ])
     }
 
-    /// 16, which is a put's alone.
-    fn cause_of_count(&self) -> u32 {
-        refuse_if(self.count == MOST_COUNT, COUNT_AT_LIMIT)
-    }
-
-    /// Those of a sum on which no word is put; its count is not looked at.
     fn causes(&self) -> u32 {
         first_of(&[self.causes_of_word(), self.causes_of_depth()])
     }
@@ -85,31 +68,28 @@ fn refused(sum: RunningSum, refusal: u32) -> SumAnswer {
 }
 
 pub fn open(width: i128, unit: i128, depth: i128) -> SumAnswer {
-    let running = RunningSum::made(neutral(width, unit), depth, 0);
+    let running = RunningSum::made(neutral(width, unit), depth);
     match running.causes() {
         DONE => done(running, RoundBit::blank()),
-        // "a refused opening has 0"
-        refusal => refused(RunningSum::made(RoundBit::blank(), 0, 0), refusal),
+        refusal => refused(RunningSum::made(RoundBit::blank(), 0), refusal),
     }
 }
 
 pub fn put(running: RunningSum, word: RoundBit) -> SumAnswer {
     // The sum is the first operand, the word the second; of the other causes
-    // the lowest number goes first: 4, 5, 7 and at last 8. Ask 10 says where 16
-    // stands among them: "checked after 7 and before 8".
+    // the lowest number goes first: 4, 5, 7 and at last 8.
     let refusal = first_of(&[
         running.causes_of_word(),
         word.causes(),
         cause_of_difference(running.kept, word),
         running.causes_of_depth(),
-        running.cause_of_count(),
     ]);
     if refusal != DONE {
         return refused(running, refusal);
     }
     let answer = sum(running.kept, word);
     match answer.refusal {
-        DONE => done(running.accepting(answer.word), RoundBit::blank()),
+        DONE => done(running.keeping(answer.word), RoundBit::blank()),
         refusal => refused(running, refusal),
     }
 }

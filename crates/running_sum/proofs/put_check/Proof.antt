@@ -20,10 +20,6 @@ returns-4 : tie.Need-returns-4
 unfolding put_check
 returns-4 c = search arms
 
-returns-5 : tie.Need-returns-5
-unfolding put_check
-returns-5 c = search arms
-
 pub put-check-spec : {M : Type 1} → statement M
 put-check-spec =
     tie.close
@@ -39,11 +35,7 @@ put-check-spec =
     (λ c. search rules)
     (λ c. search rules)
     (λ c κs. search rules)
-    (λ c. search rules)
-    (λ c. search rules)
-    (λ c κs. search rules)
     returns
     returns-2
     returns-3
-    returns-4
-    returns-5)
+    returns-4)

@@ -11,7 +11,7 @@ use Rattle.words.specs.Refusals.{causes, cause_number, first_of, row_in, row}
 use Rattle.words.specs.declared.Cause.{Cause}
 use Rattle.words.specs.declared.Cause.TheVariants.{Width, Unit, Number, Mismatch}
 use Rattle.words.specs.declared.Cause.TheVariants.{Depth, WidthPast, UnitPast, NumberPast}
-use Rattle.words.specs.declared.Cause.TheVariants.{DigitText, Buffer, Mark, Form, Byte, Run, NotFinite, Count, Channel}
+use Rattle.words.specs.declared.Cause.TheVariants.{DigitText, Buffer, Mark, Form, Byte, Run, NotFinite, Channel}
 use Rattle.words.specs.declared.Outcome.{Outcome}
 use Rattle.words.specs.declared.Outcome.TheVariants.{Done, Refused}
 use Rattle.words.proofs.Laws.Outcomes.{refused_not_done}
@@ -55,7 +55,6 @@ cause_of_number Form = refl
 cause_of_number Byte = refl
 cause_of_number Run = refl
 cause_of_number NotFinite = refl
-cause_of_number Count = refl
 cause_of_number Channel = refl
 
 -- no number is 0, which is done, and none has over two digits

@@ -12,8 +12,8 @@ returns c =
 returns-2 : tie.Need-returns-2
 unfolding step_of stepped
 returns-2 c =
-    let told = c.before.before.before in
-    rw (c.empty-done.ensures, ← told.before.before.running-sum-check.ensures, told.enum_told.given.1)
+    let told = c.before.before.before.before in
+    rw (c.empty-done.ensures, ← told.before.before.running-sum-check.ensures, told.enum_told.given.1, c.before.keeping.ensures)
 
 pub empty-spec : {M : Type 1} → statement M
 empty-spec =
@@ -23,6 +23,7 @@ empty-spec =
     (λ c. search rules)
     (λ c κs. search rules)
     (λ c. search rules)
+    (λ c κs. search rules)
     (λ c κs. search rules)
     returns
     returns-2)
