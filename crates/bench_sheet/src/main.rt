@@ -6,6 +6,8 @@
 // a file's line has kind, width, unit and count.
 // The expected output was written by hand from the documents. The tables are in specs/Bench.antt, what they
 // say of the code in specs/Met.antt, and the proof of both in proofs/Bench.antt.
+#![tactic(auto)]
+
 use libc::STDOUT_FILENO;
 use running_sum::RunningSum;
 use words::{

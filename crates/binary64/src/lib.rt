@@ -9,6 +9,8 @@
 //
 // The definitions are in specs/: Import has the counts and the answers, Claims what is claimed of them,
 // Parts the quotient as the code keeps it.
+#![tactic(auto)]
+
 ghost use Rattle.std.specs.Prelude.{◌≡◌, true, ◌+◌, ◌*◌, ◌/◌, ◌%◌, ◌^◌, ◌<◌, ◌≤◌, pos, neg_ℤ, ◌+ℤ◌, ◌≤ℤ◌};
 ghost use Rattle.std.specs.Int.Bits.{bit_and, bit_or};
 ghost use Rattle.std.specs.Float.{binary64};
@@ -42,7 +44,7 @@ const SMALLEST: i64 = 1074;
 const TOO_MANY: u64 = 9223372036854775807;
 
 // A finite number: significand * 2^places of the smallest.
-#[derive(Drop)]
+#[derive(Clone, Copy)]
 struct Scaled {
     negative: bool,
     significand: u64,
@@ -51,7 +53,7 @@ struct Scaled {
 
 // A count of units that need not be whole: in binary, its whole part, the first digit behind the point,
 // and 1 if any digit behind that one is 1.
-#[derive(Drop)]
+#[derive(Clone, Copy)]
 struct Parts {
     negative: bool,
     whole: u64,

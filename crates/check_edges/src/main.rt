@@ -3,6 +3,8 @@
 // A line for each: width, unit, number, then the number of the outcome for the plain word, the
 // half-unit word, and the round-bit words with round bits 0, 1, 2 and 255. What it must print comes
 // from second/check_edges.py, which was written from document 01 alone.
+#![tactic(auto)]
+
 use libc::STDOUT_FILENO;
 use words::{Format, HalfUnit, HalfUnitWord, Plain, PlainWord, RoundBit, RoundBitWord};
 

@@ -7,6 +7,8 @@
 // Writing touches only the bytes of the text, and none where it refuses. Reading looks for a byte that is
 // none of the three, then for a sign that repeats the one before it, and tells the place of the leftmost;
 // only a text without either makes a word.
+#![tactic(auto)]
+
 ghost use Rattle.std.specs.Prelude.{◌≡◌, not, cond, ◌&&◌, ◌≤◌, eqb, ltb, pos, ◌+ℤ◌, ◌-ℤ◌, ◌*ℤ◌, length, get_or};
 ghost use Rattle.integers.specs.Numbers.{digit};
 ghost use Rattle.integers.specs.Lists.{over};
@@ -21,7 +23,7 @@ use words::{Cause, Format, Outcome, RoundBit, RoundBitWord, WriteAnswer};
 
 // The answer of a reading. The place is of the byte that a 13 or a 9 is for, counted from 0 at the most
 // significant end; it is 0 with every other answer.
-#[derive(Drop)]
+#[derive(Clone, Copy)]
 pub struct ReadAnswer {
     pub outcome: Outcome,
     pub word: RoundBitWord,
@@ -179,7 +181,7 @@ fn repeat_place(text: &[u8]) -> usize
 }
 
 // What a check finds: its outcome, and the place that it tells, 0 where it tells none.
-#[derive(Drop)]
+#[derive(Clone, Copy)]
 struct Finding {
     outcome: Outcome,
     place: usize,

@@ -3,6 +3,8 @@
 //
 // Buffers begin as question marks, so that it shows which bytes were written. What it must print comes
 // from second/digit_texts.py, which was written from the documents alone.
+#![tactic(auto)]
+
 use digit_text::ReadAnswer;
 use libc::STDOUT_FILENO;
 use words::{Format, RoundBit, RoundBitWord, WriteAnswer};

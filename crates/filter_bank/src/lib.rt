@@ -7,6 +7,8 @@
 // each of them again.
 //
 // The definitions are in specs/Bank.antt, what is claimed of an output in specs/Claims.antt.
+#![tactic(auto)]
+
 ghost use Rattle.std.specs.Prelude.{◌≡◌, ◌^◌, ◌<◌, ◌≤◌, ltb, pos, ◌+ℤ◌};
 ghost use Rattle.std.specs.Int.Signed.{mag};
 ghost use Rattle.words.specs.Words.{bad_unit};
@@ -34,7 +36,7 @@ const SUM_WIDTH: u32 = 31;
 const CUT_DEPTH: u64 = 11;
 
 // The answer of an output.
-#[derive(Drop)]
+#[derive(Clone, Copy)]
 pub struct OutputAnswer {
     pub outcome: Outcome,
     pub word: RoundBitWord,

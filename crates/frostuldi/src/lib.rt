@@ -6,6 +6,8 @@
 // all of it and says what no proof covers.
 //
 // The definitions are in specs/Boundary.antt: how a flat word is read and how an answer is laid flat.
+#![tactic(auto)]
+
 ghost use Rattle.std.specs.Prelude.{◌≡◌, map, ◌<◌, pos, length};
 ghost use Rattle.words.specs.Formats.{format};
 ghost use Rattle.round_bit.specs.Cuts.{sign_change_of, cut_of, rest_of, even_cut_of, widen_of};
@@ -37,7 +39,7 @@ use words::{
 };
 
 #[repr(C)]
-#[derive(Drop)]
+#[derive(Clone, Copy)]
 pub struct FrostPlain {
     pub number: i64,
     pub width: u32,
@@ -45,7 +47,7 @@ pub struct FrostPlain {
 }
 
 #[repr(C)]
-#[derive(Drop)]
+#[derive(Clone, Copy)]
 pub struct FrostHalfUnit {
     pub number: i64,
     pub width: u32,
@@ -53,7 +55,7 @@ pub struct FrostHalfUnit {
 }
 
 #[repr(C)]
-#[derive(Drop)]
+#[derive(Clone, Copy)]
 pub struct FrostRoundBit {
     pub number: i64,
     pub width: u32,
@@ -62,28 +64,28 @@ pub struct FrostRoundBit {
 }
 
 #[repr(C)]
-#[derive(Drop)]
+#[derive(Clone, Copy)]
 pub struct FrostPlainAnswer {
     pub word: FrostPlain,
     pub refusal: u32,
 }
 
 #[repr(C)]
-#[derive(Drop)]
+#[derive(Clone, Copy)]
 pub struct FrostHalfUnitAnswer {
     pub word: FrostHalfUnit,
     pub refusal: u32,
 }
 
 #[repr(C)]
-#[derive(Drop)]
+#[derive(Clone, Copy)]
 pub struct FrostRoundBitAnswer {
     pub word: FrostRoundBit,
     pub refusal: u32,
 }
 
 #[repr(C)]
-#[derive(Drop)]
+#[derive(Clone, Copy)]
 pub struct FrostRunningSum {
     pub kept: FrostRoundBit,
     pub depth: u64,
@@ -91,7 +93,7 @@ pub struct FrostRunningSum {
 
 // An opening and a put hand back no word: theirs is the blank one.
 #[repr(C)]
-#[derive(Drop)]
+#[derive(Clone, Copy)]
 pub struct FrostSumAnswer {
     pub sum: FrostRunningSum,
     pub word: FrostRoundBit,
@@ -100,25 +102,25 @@ pub struct FrostSumAnswer {
 
 // Eight words, one behind the other: a struct of rows has the bytes of an array of arrays.
 #[repr(C)]
-#[derive(Drop)]
+#[derive(Clone, Copy)]
 pub struct FrostTaps {
     pub taps: [FrostRoundBit; 8],
 }
 
 #[repr(C)]
-#[derive(Drop)]
+#[derive(Clone, Copy)]
 pub struct FrostBank {
     pub channels: [FrostTaps; 4],
 }
 
 #[repr(C)]
-#[derive(Drop)]
+#[derive(Clone, Copy)]
 pub struct FrostWindow {
     pub samples: [FrostRoundBit; 8],
 }
 
 #[repr(C)]
-#[derive(Drop)]
+#[derive(Clone, Copy)]
 pub struct FrostTextAnswer {
     pub word: FrostRoundBit,
     pub refusal: u32,
@@ -126,7 +128,7 @@ pub struct FrostTextAnswer {
 }
 
 #[repr(C)]
-#[derive(Drop)]
+#[derive(Clone, Copy)]
 pub struct FrostFileHead {
     pub refusal: u32,
     pub kind: u32,
@@ -136,14 +138,14 @@ pub struct FrostFileHead {
 }
 
 #[repr(C)]
-#[derive(Drop)]
+#[derive(Clone, Copy)]
 pub struct FrostWritten {
     pub bytes: u64,
     pub refusal: u32,
 }
 
 #[repr(C)]
-#[derive(Drop)]
+#[derive(Clone, Copy)]
 pub struct FrostReading {
     pub lowest: f32,
     pub highest: f32,
@@ -151,14 +153,14 @@ pub struct FrostReading {
 }
 
 #[repr(C)]
-#[derive(Drop)]
+#[derive(Clone, Copy)]
 pub struct FrostReadingAnswer {
     pub reading: FrostReading,
     pub refusal: u32,
 }
 
 #[repr(C)]
-#[derive(Drop)]
+#[derive(Clone, Copy)]
 pub struct FrostBlockSumAnswer {
     pub word: FrostRoundBit,
     pub index: u64,

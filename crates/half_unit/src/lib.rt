@@ -8,6 +8,8 @@
 //
 // An operation is a check, which finds the first cause to refuse, its arithmetic on words that
 // passed, and the two put together. Every public function takes any words and any depth.
+#![tactic(auto)]
+
 ghost use Rattle.std.specs.Prelude.{◌≡◌, ◌+◌, ◌*◌, ◌^◌, ◌<◌, ◌≤◌, pos, ◌+ℤ◌, ◌*ℤ◌};
 ghost use Rattle.std.specs.Int.Signed.{mag};
 ghost use Rattle.words.specs.Refusals.{blank_format};
@@ -23,7 +25,7 @@ use words::{
 };
 
 // The answer of a cut.
-#[derive(Drop)]
+#[derive(Clone, Copy)]
 pub struct CutAnswer {
     pub outcome: Outcome,
     pub word: HalfUnitWord,

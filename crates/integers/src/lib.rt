@@ -5,6 +5,8 @@
 // the sign. So each function here has an answer at every depth and every width, however large, and
 // none asks anything of its caller. The definitions are in specs/Numbers.antt, the laws that the
 // rooms above use in proofs/.
+#![tactic(auto)]
+
 ghost use Rattle.std.specs.Prelude.{◌≡◌, ◌-◌, nat_abs};
 ghost use Rattle.integers.specs.Numbers.{floor_by, cleared, digit, digits_below, low_digits, any_below, fits_width};
 

@@ -3,6 +3,8 @@
 // It only reads and writes. One byte more than the longest good file is enough of the input to see
 // that it is longer, and no listing is longer than the buffer for the text. What cannot be read or
 // written is said on standard error, and a file that was not read has no listing.
+#![tactic(auto)]
+
 mod whole_io;
 
 ghost use Rattle.std.specs.Prelude.{◌≡◌, take, false};
@@ -45,7 +47,7 @@ fn write_listing(file: &[u8]) {
     }
 }
 
-#[derive(Drop)]
+#[derive(Clone, Copy)]
 struct Listed {
     count: usize,
     refused: bool,

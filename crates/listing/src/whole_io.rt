@@ -9,7 +9,7 @@ ghost use Rattle.io.specs.Counts.{IsPrefixLen};
 // A call that a signal interrupts is made again, but a loop has to end: so many in a row are an error.
 const MOST_INTERRUPTED: u32 = 1000;
 
-#[derive(Drop)]
+#[derive(Clone, Copy)]
 pub(crate) enum End {
     Whole,
     // errno says why.
@@ -19,13 +19,13 @@ pub(crate) enum End {
 }
 
 // How many bytes were moved, and how that ended.
-#[derive(Drop)]
+#[derive(Clone, Copy)]
 pub(crate) struct Run {
     pub(crate) count: usize,
     pub(crate) end: End,
 }
 
-#[derive(Drop)]
+#[derive(Clone, Copy)]
 struct Call {
     count: usize,
     failed: bool,

@@ -7,6 +7,8 @@
 //
 // An operation is a check, which finds the first cause to refuse, its arithmetic on words that
 // passed, and the two put together. Every public function takes any words and any depth.
+#![tactic(auto)]
+
 ghost use Rattle.std.specs.Prelude.{◌≡◌, ◌+◌, ◌-◌, ◌*◌, ◌^◌, ◌<◌, ◌≤◌, pos, ◌+ℤ◌, ◌*ℤ◌, ◌≤ℤ◌};
 ghost use Rattle.std.specs.Int.Signed.{mag};
 ghost use Rattle.integers.specs.Numbers.{floor_by};
@@ -22,21 +24,21 @@ use words::{
 };
 
 // The answer of a cut.
-#[derive(Drop)]
+#[derive(Clone, Copy)]
 pub struct CutAnswer {
     pub outcome: Outcome,
     pub word: RoundBitWord,
 }
 
 // The answer of an even cut.
-#[derive(Drop)]
+#[derive(Clone, Copy)]
 pub struct EvenCutAnswer {
     pub outcome: Outcome,
     pub word: RoundBitWord,
 }
 
 // The answer of a cut and its rest.
-#[derive(Drop)]
+#[derive(Clone, Copy)]
 pub struct CutAndRestAnswer {
     pub outcome: Outcome,
     pub word: RoundBitWord,

@@ -7,34 +7,36 @@
 //
 // A sum goes in by value and comes back by value. Every call takes any sum, also one that no opening
 // made, and a refused call leaves the sum as it was, digit for digit.
+#![tactic(auto)]
+
 ghost use Rattle.std.specs.Prelude.{◌≡◌};
 ghost use Rattle.words.specs.Refusals.{blank_format};
 ghost use Rattle.running_sum.specs.Steps.{blank, made, depth_check, open_check, open_answer, open_of, put, hand_out, empty, step_of, running_sum_check, put_check, keeping, put_answer, hand_out_answer, empty_answer};
 
 use words::{Cause, Format, Outcome, RoundBit, RoundBitWord};
 
-#[derive(Drop)]
+#[derive(Clone, Copy)]
 pub struct RunningSum {
     pub kept: RoundBitWord,
     pub depth: u64,
 }
 
 // The answer of an opening: a refused one keeps the blank word at depth 0.
-#[derive(Drop)]
+#[derive(Clone, Copy)]
 pub struct OpenAnswer {
     pub outcome: Outcome,
     pub sum: RunningSum,
 }
 
 // The answer of a put. It hands back no word.
-#[derive(Drop)]
+#[derive(Clone, Copy)]
 pub struct PutAnswer {
     pub outcome: Outcome,
     pub sum: RunningSum,
 }
 
 // The answer of a hand-out.
-#[derive(Drop)]
+#[derive(Clone, Copy)]
 pub struct HandOutAnswer {
     pub outcome: Outcome,
     pub word: RoundBitWord,
@@ -42,7 +44,7 @@ pub struct HandOutAnswer {
 }
 
 // The answer of an emptying.
-#[derive(Drop)]
+#[derive(Clone, Copy)]
 pub struct EmptyAnswer {
     pub outcome: Outcome,
     pub word: RoundBitWord,

@@ -4,12 +4,14 @@
 // of the sum's unit, and beside them the same of a faulty sum to which the same calls are made, but
 // which drops the rest's round bit at each hand-out: how far that trace has crept. What it must print
 // comes from second/running_trace.py, which was written from document 01 alone.
+#![tactic(auto)]
+
 use libc::STDOUT_FILENO;
 use running_sum::RunningSum;
 use words::{Format, RoundBit, RoundBitWord};
 
 // A signed total: what was added less what was taken off, so that no addition can overflow unseen.
-#[derive(Drop)]
+#[derive(Clone, Copy)]
 struct Total {
     more: u64,
     less: u64,
@@ -69,7 +71,7 @@ fn value(w: RoundBitWord) -> Total {
 }
 
 // A sum, the outcome and the word of the last call on it, and the two totals.
-#[derive(Drop)]
+#[derive(Clone, Copy)]
 struct Trace {
     sum: RunningSum,
     faulty: bool,
@@ -249,7 +251,7 @@ fn bench_sheet() {
 }
 
 // The sum and the faulty one, and where the signal is.
-#[derive(Drop)]
+#[derive(Clone, Copy)]
 struct Run {
     sum: Trace,
     crept: Trace,

@@ -3,7 +3,7 @@
 -- Proved here: `passing`, `refusing`, `answering`, `refused_into`, `done_into`, `first_refusing`, `first_passing`, `format_told`, `format_passed`,
 -- `format_refusing`, `format_passing`, `test_told`, `number_told`, `fit_refusing`, `fit_answering`.
 use Prim.Native.Nat.{ℕ}
-use mathlib.Core.Path.{◌≡◌, sym, ap, ◌∙◌}
+use mathlib.Core.Path.{◌≡◌, sym, ◌∙◌}
 use mathlib.Core.Bool.{Bool, true, false}
 use lib.IntN.{ℤ}
 use mir.Syntax.{w64}

@@ -14,7 +14,7 @@ use Rattle.integers.proofs.Kit.{ints, plus_law, minus_law}
 use Rattle.integers.proofs.Width.{lies_true, lies_low, lies_high}
 use Rattle.words.specs.Words.{bad_unit}
 use Rattle.words.specs.Refusals.{refuse_for}
-use Rattle.words.specs.Formats.{format, narrower, narrower_check, wider, answer_check, format_answer}
+use Rattle.words.specs.Formats.{narrower, narrower_check, wider, answer_check, format_answer}
 use Rattle.words.specs.declared.Cause.TheVariants.{Depth, WidthPast, UnitPast}
 use Rattle.words.specs.declared.Outcome.{Outcome}
 use Rattle.words.specs.declared.Outcome.TheVariants.{Done, Refused}

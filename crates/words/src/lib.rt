@@ -7,6 +7,8 @@
 //
 // Every function here takes any value of these types. The definitions are in specs/, in document
 // 01's order; what a passed check tells is in proofs/Laws.antt.
+#![tactic(auto)]
+
 ghost use Rattle.std.specs.Prelude.{◌≡◌, ◌-◌, ◌^◌, ◌<◌};
 ghost use Rattle.words.specs.Words.{bad_width, bad_unit, outside, bad_round_bit};
 ghost use Rattle.words.specs.Refusals.{cause_number, number_of, refuse_for, ◌or_else◌, format_check, word_check, differ, refuse, blank_format};
@@ -16,7 +18,7 @@ ghost use Rattle.words.specs.RoundBit.{round_bit_check, round_bit_refused, round
 ghost use Rattle.words.specs.HalfUnit.{half_unit_check, half_unit_refused, half_unit_done, half_unit_fitted};
 
 // Why a call refuses, in the table's order. The table's number of each is `cause_number`.
-#[derive(Drop)]
+#[derive(Clone, Copy)]
 pub enum Cause {
     Width,
     Unit,
@@ -36,75 +38,75 @@ pub enum Cause {
     Channel,
 }
 
-#[derive(Drop)]
+#[derive(Clone, Copy)]
 pub enum Outcome {
     Done,
     Refused(Cause),
 }
 
 // x
-#[derive(Drop)]
+#[derive(Clone, Copy)]
 pub struct Plain(pub i64);
 
 // (a, r)
-#[derive(Drop)]
+#[derive(Clone, Copy)]
 pub struct RoundBit(pub i64, pub u8);
 
 // w
-#[derive(Drop)]
+#[derive(Clone, Copy)]
 pub struct HalfUnit(pub i64);
 
-#[derive(Drop)]
+#[derive(Clone, Copy)]
 pub struct Format {
     pub width: u32,
     pub unit: i32,
 }
 
-#[derive(Drop)]
+#[derive(Clone, Copy)]
 pub struct PlainWord {
     pub number: Plain,
     pub format: Format,
 }
 
-#[derive(Drop)]
+#[derive(Clone, Copy)]
 pub struct RoundBitWord {
     pub number: RoundBit,
     pub format: Format,
 }
 
-#[derive(Drop)]
+#[derive(Clone, Copy)]
 pub struct HalfUnitWord {
     pub number: HalfUnit,
     pub format: Format,
 }
 
-#[derive(Drop)]
+#[derive(Clone, Copy)]
 pub struct PlainAnswer {
     pub outcome: Outcome,
     pub word: PlainWord,
 }
 
-#[derive(Drop)]
+#[derive(Clone, Copy)]
 pub struct RoundBitAnswer {
     pub outcome: Outcome,
     pub word: RoundBitWord,
 }
 
-#[derive(Drop)]
+#[derive(Clone, Copy)]
 pub struct HalfUnitAnswer {
     pub outcome: Outcome,
     pub word: HalfUnitWord,
 }
 
 // The answer of a writing into a lent buffer: the count of bytes written, 0 when refused.
-#[derive(Drop)]
+#[derive(Clone, Copy)]
 pub struct WriteAnswer {
     pub outcome: Outcome,
     pub count: usize,
 }
 
 // The format of an answer, or a refusal with the blank one.
-#[derive(Drop)]
+#[derive(Clone, Copy)]
 pub struct FormatAnswer {
     pub outcome: Outcome,
     pub format: Format,

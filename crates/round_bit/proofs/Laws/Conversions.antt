@@ -12,7 +12,6 @@ use Rattle.integers.specs.Numbers.{fits_width}
 use Rattle.integers.proofs.Width.{fits_is, carry_past}
 use Rattle.words.specs.Words.{value}
 use Rattle.words.specs.Refusals.{refuse}
-use Rattle.words.specs.Formats.{format}
 use Rattle.words.specs.Plain.{plain_value, plain_check, plain_refused, plain_done, plain_fitted}
 use Rattle.words.specs.RoundBit.{round_bit_value, round_bit_check}
 use Rattle.words.specs.declared.Outcome.TheVariants.{Done}

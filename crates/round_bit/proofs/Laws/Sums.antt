@@ -10,7 +10,6 @@ use lib.Signed.{mag}
 use lib.IntN.{ℤ, pos, negsuc, ◌+ℤ◌, ◌*ℤ◌, +ℤ_idr, -ℤ-+ℤ_cancel}
 use Rattle.integers.proofs.Times.{times_plus, times_neg}
 use Rattle.words.specs.Words.{value}
-use Rattle.words.specs.Formats.{format}
 use Rattle.words.specs.RoundBit.{round_bit_word, round_bit_value, round_bit_check, round_bit_refused, round_bit_done, round_bit_fitted, ◌and_then◌}
 use Rattle.words.specs.declared.Format.{Format}
 use Rattle.words.specs.declared.Outcome.TheVariants.{Done}

@@ -1,0 +1,33 @@
+use Prim.Native.Nat.{◌^◌}
+use mathlib.Core.Path.{◌≡◌}
+use native.Mathlib.Omega.{arith}
+use lib.IntN.{pos, ◌+ℤ◌}
+use mir.Syntax.{w64}
+use mir.Val.{SFits, to_z}
+use mir.Facts.{to_z-of_z, to_z_pos}
+use Rattle.integers.proofs.Kit.{ints, plus_law, size_range}
+use Rattle.words.specs.declared.RoundBitWord.{RoundBitWord}
+use Rattle.words.specs.declared.Outcome.TheVariants.{Done}
+use Rattle.words.specs.RoundBit.{round_bit_check}
+use Rattle.words.proofs.Laws.{round_bit_right, small, machine}
+use Rattle.round_bit.specs.Arithmetic.{to_plain_word}
+use Rattle.round_bit.proofs.to_plain_word.Goals as goal
+
+bit : (w : RoundBitWord) → round_bit_check w ≡ Done → to_z w64 w.number.1 ≡ pos w.number.1
+bit w e = to_z_pos w64 (omega (arith, (round_bit_right w e).bit))
+
+whole : (w : RoundBitWord) → round_bit_check w ≡ Done → SFits w64 (w.number.0 +ℤ pos w.number.1)
+whole w e =
+    let g = round_bit_right w e in
+    omega (ints, size_range (2 ^ 62) w.number.0 (small g), g.bit, plus_law w.number.0 (pos w.number.1))
+
+pub overflow_add-result : goal.overflow_add-result
+overflow_add-result c =
+    let g = round_bit_right c.args.w c.requires in
+    rw (to_z-of_z (machine g), bit c.args.w c.requires) (whole c.args.w c.requires)
+
+pub returns : goal.returns
+unfolding to_plain_word
+returns c =
+    let g = round_bit_right c.args.w c.requires in
+    rw (to_z-of_z (machine g), bit c.args.w c.requires, to_z-of_z (whole c.args.w c.requires))

@@ -1,0 +1,18 @@
+use Rattle.words.specs.Refusals.{format_check}
+use Rattle.words.proofs.format_check.Goals as goal
+
+pub returns-in-Refused : goal.returns-in-Refused
+unfolding format_check
+returns-in-Refused c =
+    rw (← c.bad_width-width.ensures, ← c.refuse_for.ensures, c.in-Refused.is)
+
+pub returns-in_default : goal.returns-in_default
+unfolding format_check
+returns-in_default c =
+    rw (
+      ← c.bad_width-width.ensures,
+      ← c.refuse_for.ensures,
+      c.in_default.is,
+      c.refuse_for-in_default.ensures,
+      c.bad_unit-unit.ensures,
+    )

@@ -1,0 +1,12 @@
+use Rattle.words.specs.RoundBit.{round_bit_fitted}
+use Rattle.words.proofs.Arms.{fit_refusing, fit_answering}
+use borrow.Author.Rules.{rules}
+use Rattle.words.proofs.round_bit_fitted.Goals as goal
+
+pub returns-then-outside : goal.returns-then-outside
+unfolding round_bit_fitted
+returns-then-outside c = search (fit_refusing, rules)
+
+pub returns-else-outside : goal.returns-else-outside
+unfolding round_bit_fitted
+returns-else-outside c = search (fit_answering, rules)
