@@ -3,6 +3,7 @@
 leaves, proofs/F/Answers.antt, by what `rt check --generated DIR --old-names` says of the old names and the new.
 
 usage: answers.py NAMES.json CRATE [FUNCTION..]   in the repository; the crate's old proofs stay beside as Proof.old"""
+import glob
 import json
 import os
 import re
@@ -35,6 +36,16 @@ def head(block):
         if line.strip() and not line.startswith("--"):
             return line
     return ""
+
+
+class Parts:
+    """A step and the place of a clause, or no step and that of a clause required."""
+
+    def __init__(self, m):
+        self.whole, self.parts = m.group(0), (m.group(1), m.group(2) if m.group(1) else m.group(3))
+
+    def group(self, k):
+        return self.whole if k == 0 else self.parts[k - 1]
 
 
 def arguments(text):
@@ -81,6 +92,27 @@ def unaliased(block):
     while m := re.search(r"^( *)let (\w+) = (\w+) in\n *", block, re.M):
         block = block[: m.start()] + m.group(1) + re.sub(rf"\b{m.group(2)}(?=[.\s)(,])", m.group(3), block[m.end() :])
     return block
+
+
+def labels():
+    """The names of each function's clauses, where it has several: those it requires and those it ensures."""
+    out = {}
+    for source in glob.glob("crates/*/src/*.rt"):
+        crate, owner, name = source.split("/")[1], "", None
+        with open(source, encoding="utf-8") as it:
+            for line in it:
+                m = re.match(r"impl (\w+)", line)
+                if m:
+                    owner = m.group(1) + "::"
+                elif line.startswith("}"):
+                    owner = ""
+                m = re.match(r"\s*(?:pub )?(?:extern \"C\" )?fn (\w+)", line)
+                if m:
+                    name = f"{crate}::{owner if line.startswith(' ') else ''}{m.group(1)}"
+                m = re.match(r"\s*(requires|ensures) (\w+) \{", line)
+                if m and name:
+                    out.setdefault((name, m.group(1)), []).append(m.group(2))
+    return out
 
 
 def convert(text, names, crate, path):
@@ -153,6 +185,19 @@ def convert(text, names, crate, path):
 
     text = re.sub(r"(module _ \(c : tie\.)([^\s)]+)(\) where\n  abbrev \w+ : tie\.)(\S+)(\n  \w+ = c)(?:\.before)+\n", rehop, text)
 
+    clauses = labels()
+    steps = {new: place[3] for place, new in zip(names["places"], [p[2][1] for p in names["places"]]) if place[3]}
+    mine = f"{crate}::" + path.replace(".", "::")
+
+    def labelled(line):
+        def one(m):
+            known = clauses.get((steps.get(m.group(1)) if m.group(1) else mine, "ensures" if m.group(1) else "requires"))
+            k = int(m.group(2))
+            before = f".{m.group(1)}.ensures." if m.group(1) else ".requires."
+            return before + known[k] if known and len(known) > 1 and k < len(known) else m.group(0)
+
+        return re.sub(r"\.([^\s().,]+)\.ensures\.(\d+)|\.requires\.(\d+)", lambda m: one(Parts(m)), line)
+
     def field(m):
         name = m.group(1)
         return "." + fields.get(plain(name), name)
@@ -196,6 +241,7 @@ def convert(text, names, crate, path):
         if not line.startswith(("use ", "--")):
             line = re.sub(r"(?<=[\w)])\.([A-Za-z][^\s(),.;]*)", field, line)
             line = line.replace(".type-inv", ".type_inv").replace(".pre.", ".requires.").replace(".fits.", ".ranges.")
+            line = labelled(line)
             line = re.sub(r"\.pre(?=[\s)]|$)", ".requires", line)
         out.append(line)
     text = "\n\n".join(unaliased(block) for block in "\n".join(out).split("\n\n"))

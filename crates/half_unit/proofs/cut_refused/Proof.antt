@@ -1,6 +1,0 @@
-use borrow.Author.Rules.{rules}
-use Rattle.half_unit.proofs.cut_refused.Statement.{statement}
-use Rattle.half_unit.proofs.cut_refused.Tie as tie
-
-pub cut-refused-spec : {M : Type 1} → statement M
-cut-refused-spec = tie.close (tie.spec (λ c κs. search rules) (λ c. rw c.before.half-unit-refused.ensures))
