@@ -275,7 +275,9 @@ def convert(text, names, crate, path):
         return re.sub(r"\.([^\s().,]+)\.ensures\.(\d+)|\.requires\.(\d+)", lambda m: one(Parts(m)), line)
 
     def field(m):
-        return m.group(1) + "." + fields.get(plain(m.group(2)), m.group(2))
+        new = fields.get(plain(m.group(2)), m.group(2))
+        # A step of Rattle's own has an argument's name: then it is the argument.
+        return m.group(1) + "." + (m.group(2) if new == m.group(2) + "-1" else new)
 
     clauses = labels()
     mine = f"{crate}::" + path.replace(".", "::")
@@ -330,6 +332,7 @@ def convert(text, names, crate, path):
     for line in text.split("\n"):
         if not line.startswith(("use ", "--")):
             line = re.sub(r"((?:(?<![\w.'-])\w+|(?<=\)))(?:\.before)*)\.([A-Za-z][^\s(),.;]*)", field, line)
+            line = re.sub(r"\.(\w+)_lem(?=\.(?:ensures|result|type_inv|auto))", r".\1", line)
             line = line.replace(".in_default.rest", ".in_default.in_default-own.rest")
             line = line.replace("to_z-of_z (record {", "to_z-of_z {w = w64} (record {")
             line = line.replace(".type-inv", ".type_inv").replace(".well-formed", ".well_formed").replace(".pre.", ".requires.").replace(".fits.", ".ranges.")

@@ -6,7 +6,6 @@ use lib.IntN.{ℤ, pos, nat_abs}
 use mir.Syntax.{w64}
 use mir.Val.{to_z, of_z}
 use mir.Facts.{to_z-of_z, to_z_pos}
-use borrow.Author.Rules.{rules}
 use Rattle.integers.specs.Numbers.{floor_by, digit, any_below}
 use Rattle.integers.proofs.Machine.{by_cast}
 use Rattle.binary64.proofs.Split.{cut_parts}

@@ -1,6 +1,5 @@
 use native.Mathlib.Omega.{arith}
 use Rattle.binary64.proofs.Fields.{subnormal_bits, normal_bits}
-use borrow.Author.Rules.{rules}
 use Rattle.binary64.proofs.decoded.Goals as goal
 
 pub returns-then-field-eq0 : goal.returns-then-field-eq0

@@ -6,7 +6,6 @@ use mir.Syntax.{w64}
 use mir.Val.{SFits}
 use mir.Facts.{to_z_pos, to_z-of_z}
 use borrow.Author.Tests.{eq-eqb, ne_eqb}
-use borrow.Author.Rules.{rules}
 use Rattle.integers.specs.Numbers.{turned, cleared}
 use Rattle.integers.proofs.Kit.{ints}
 use Rattle.integers.proofs.Machine.{turned_machine}

@@ -1,4 +1,3 @@
-use borrow.Author.Rules.{rules}
 use Rattle.binary64.specs.Import.{import_check}
 use Rattle.binary64.proofs.import_check.Goals as goal
 

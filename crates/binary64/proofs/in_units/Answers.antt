@@ -6,7 +6,6 @@ use lib.Ieee.Exact.{HasValue}
 use Rattle.std.specs.Prelude.{neg_ℤ, ◌≤ℤ◌}
 use lib.Ieee.{binary64, low}
 use mir.Facts.{to_z-of_z}
-use borrow.Author.Rules.{rules}
 use Rattle.integers.proofs.Kit.{ints, plus_law}
 use Rattle.words.specs.Words.{most_unit}
 use Rattle.binary64.specs.declared.Scaled.{Scaled}

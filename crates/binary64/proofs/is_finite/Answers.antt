@@ -3,7 +3,6 @@ use mathlib.Core.Path.{ap, ◌∙◌}
 use Prim.Native.Nat.{ℕ}
 use lib.Dec.{eqb}
 use lib.Ieee.{binary64, ones}
-use borrow.Author.Rules.{rules}
 use Rattle.binary64.proofs.Fields.{bits_finite}
 use Rattle.binary64.proofs.is_finite.Goals as goal
 

@@ -1,6 +1,5 @@
 use mathlib.Core.Path.{ap}
 use Prim.Native.Nat.{ℕ, ◌+◌}
-use borrow.Author.Rules.{rules}
 use Rattle.binary64.specs.Parts.{nearest_of}
 use Rattle.binary64.proofs.nearest.Goals as goal
 

@@ -3,7 +3,6 @@ use Prim.Native.Nat.{◌*◌, ◌-◌, ◌%◌, ◌^◌, ◌≤◌, min}
 use native.Mathlib.Omega.{arith}
 use native.Mathlib.Nat.{mul-le-mul}
 use lib.Pow.{pow_mono}
-use borrow.Author.Rules.{rules}
 use Rattle.binary64.specs.Parts.{too_many}
 use Rattle.binary64.proofs.Split.{raised_parts}
 use Rattle.binary64.proofs.raised.Goals as goal

@@ -1,9 +1,6 @@
-use mathlib.Core.Path.{◌≡◌, ◌∙◌}
+use mathlib.Core.Path.{◌∙◌}
 use mir.Facts.{to_z-of_z}
-use Rattle.words.specs.Formats.{format}
 use Rattle.words.proofs.Arms.{arms}
-use borrow.Author.Rules.{rules}
-use Rattle.binary64.specs.Import.{import_check}
 use Rattle.binary64.proofs.to_plain.Goals as goal
 
 pub returns-in-Refused : goal.returns-in-Refused

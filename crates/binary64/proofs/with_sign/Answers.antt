@@ -3,7 +3,6 @@ use lib.IntN.{pos, ◌-ℤ◌}
 use mir.Syntax.{w64}
 use mir.Val.{SFits}
 use mir.Facts.{to_z_pos, to_z-of_z}
-use borrow.Author.Rules.{rules}
 use Rattle.integers.proofs.Kit.{ints, minus_law, neg_law}
 use Rattle.binary64.proofs.with_sign.Goals as goal
 

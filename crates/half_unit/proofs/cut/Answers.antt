@@ -1,7 +1,6 @@
 use Rattle.words.specs.HalfUnit.{half_unit_refused, half_unit_done}
 use Rattle.words.proofs.Arms.{format_told, format_passed, refused_into, done_into}
 use Rattle.half_unit.specs.Cuts.{cut_answer}
-use borrow.Author.Rules.{rules}
 use Rattle.half_unit.proofs.cut.Goals as goal
 
 pub cut_word-requires : goal.cut_word-requires

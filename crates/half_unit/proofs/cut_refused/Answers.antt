@@ -1,4 +1,3 @@
-use borrow.Author.Rules.{rules}
 use Rattle.half_unit.proofs.cut_refused.Goals as goal
 
 pub returns : goal.returns

@@ -6,7 +6,6 @@ use mir.Syntax.{w64}
 use mir.Val.{SFits, to_z}
 use mir.Facts.{to_z-of_z, to_z_pos}
 use Rattle.integers.proofs.Kit.{ints, plus_law, times_law, size_range}
-use borrow.Author.Rules.{rules}
 use Rattle.half_unit.proofs.doubled.Goals as goal
 
 module _ (c : goal.Start) where

@@ -4,8 +4,7 @@ use mir.Val.{SFits}
 use mir.Facts.{to_z-of_z}
 use borrow.Author.Tests.{eq-eqb, ne_eqb}
 use Rattle.half_unit.specs.Conversions.{even_floor}
-use Rattle.integers.specs.Numbers.{any_below, floor_by}
-use borrow.Author.Rules.{rules}
+use Rattle.integers.specs.Numbers.{any_below}
 use Rattle.half_unit.proofs.even_floor.Goals as goal
 
 pub returns-then-dropped-eq0 : goal.returns-then-dropped-eq0

@@ -1,6 +1,5 @@
 use Rattle.words.specs.HalfUnit.{half_unit_refused, half_unit_done}
 use Rattle.words.proofs.Arms.{format_told, format_passed, refusing, answering}
-use borrow.Author.Rules.{rules}
 use Rattle.half_unit.proofs.from_round_bit.Goals as goal
 
 pub from_round_bit_word-requires : goal.from_round_bit_word-requires

@@ -1,5 +1,4 @@
 use Rattle.words.proofs.Arms.{arms}
-use borrow.Author.Rules.{rules}
 use Rattle.half_unit.proofs.from_round_bit_format.Goals as goal
 
 pub returns-in-Refused : goal.returns-in-Refused

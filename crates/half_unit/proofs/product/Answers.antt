@@ -1,6 +1,5 @@
 use Rattle.words.specs.HalfUnit.{half_unit_refused, half_unit_done}
 use Rattle.words.proofs.Arms.{format_told, format_passed, refusing, answering}
-use borrow.Author.Rules.{rules}
 use Rattle.half_unit.proofs.product.Goals as goal
 
 pub product_word-requires : goal.product_word-requires

@@ -1,6 +1,5 @@
 use Rattle.words.specs.HalfUnit.{half_unit_refused, half_unit_done}
 use Rattle.words.proofs.Arms.{arms, answering}
-use borrow.Author.Rules.{rules}
 use Rattle.half_unit.proofs.sign_change.Goals as goal
 
 pub returns-in-Refused : goal.returns-in-Refused

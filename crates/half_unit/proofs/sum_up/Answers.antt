@@ -1,6 +1,5 @@
 use Rattle.words.specs.HalfUnit.{half_unit_refused, half_unit_fitted}
 use Rattle.words.proofs.Arms.{arms, answering}
-use borrow.Author.Rules.{rules}
 use Rattle.half_unit.proofs.sum_up.Goals as goal
 
 pub sum_up_word-requires : goal.sum_up_word-requires

@@ -1,6 +1,5 @@
 use Rattle.words.specs.Plain.{plain_refused, plain_done}
 use Rattle.words.proofs.Arms.{format_told, format_passed, refusing, answering}
-use borrow.Author.Rules.{rules}
 use Rattle.half_unit.proofs.to_plain.Goals as goal
 
 pub to_plain_word-requires : goal.to_plain_word-requires

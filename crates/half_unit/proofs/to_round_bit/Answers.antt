@@ -1,6 +1,5 @@
 use Rattle.words.specs.RoundBit.{round_bit_refused, round_bit_done}
 use Rattle.words.proofs.Arms.{format_told, format_passed, refusing, answering}
-use borrow.Author.Rules.{rules}
 use Rattle.half_unit.proofs.to_round_bit.Goals as goal
 
 pub to_round_bit_word-requires : goal.to_round_bit_word-requires

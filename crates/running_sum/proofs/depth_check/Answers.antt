@@ -3,7 +3,6 @@ use Rattle.words.proofs.Formats.{answer_outcome}
 use mathlib.Core.Path.{sym, ◌∙◌}
 use Rattle.words.specs.declared.Cause.TheVariants.{Depth}
 use Rattle.running_sum.proofs.Checks.{depth_some, depth_none}
-use borrow.Author.Rules.{rules}
 use Rattle.running_sum.proofs.depth_check.Goals as goal
 
 pub returns-in-Refused : goal.returns-in-Refused

@@ -1,4 +1,3 @@
-use borrow.Author.Rules.{rules}
 use Rattle.running_sum.proofs.empty_refused.Goals as goal
 
 pub returns : goal.returns

@@ -1,6 +1,5 @@
 use mir.Facts.{to_z-of_z}
 use Rattle.running_sum.specs.Steps.{open_answer, open_of}
-use borrow.Author.Rules.{rules}
 use Rattle.running_sum.proofs.open.Goals as goal
 
 pub returns-in-Refused : goal.returns-in-Refused

@@ -1,5 +1,4 @@
 use Rattle.running_sum.specs.Steps.{open_answer}
-use borrow.Author.Rules.{rules}
 use Rattle.running_sum.proofs.open_refused.Goals as goal
 
 pub returns : goal.returns

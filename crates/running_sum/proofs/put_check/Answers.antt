@@ -1,6 +1,5 @@
 use Rattle.words.proofs.Arms.{arms}
 use Rattle.running_sum.specs.Steps.{put_check}
-use borrow.Author.Rules.{rules}
 use Rattle.running_sum.proofs.put_check.Goals as goal
 
 pub returns-in-Refused : goal.returns-in-Refused

@@ -1,5 +1,4 @@
 use Rattle.words.proofs.Arms.{arms}
-use borrow.Author.Rules.{rules}
 use Rattle.running_sum.proofs.running_sum_check.Goals as goal
 
 pub returns-in-Refused : goal.returns-in-Refused

@@ -1,5 +1,4 @@
 use Rattle.running_sum.specs.Steps.{stepped, step_of}
-use borrow.Author.Rules.{rules}
 use Rattle.running_sum.proofs.RunningSum.empty.Goals as goal
 
 pub returns-in-Refused : goal.returns-in-Refused
