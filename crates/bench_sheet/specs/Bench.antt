@@ -3,8 +3,9 @@
 -- its checks compares an entire answer with what the sheet says: the number of the outcome, number,
 -- round bit, width and unit, the blank word where it is refused. Widths and units that the sheet
 -- leaves to the rules are written as the rules have them, n - d and e + d.
-use Rattle.integers.specs.Names.{ℕ, ◌+◌, ◌-◌, Bool, true, ◌&&◌, List, [], ◌∷◌, ◌++◌, length}
-use Rattle.integers.specs.Names.{eqb, ℤ, pos, negsuc, ◌*ℤ◌, eq_z, fits_width, same_bytes}
+use Rattle.std.specs.Prelude.{ℕ, ◌+◌, ◌-◌, Bool, true, ◌&&◌, List, [], ◌∷◌, ◌++◌, length, eqb, ℤ}
+use Rattle.std.specs.Prelude.{pos, negsuc, ◌*ℤ◌}
+use Rattle.integers.specs.Names.{eq_z, fits_width, same_bytes}
 use Rattle.std.specs.Prelude.{replicate}
 use Rattle.words.specs.declared.Outcome.{Outcome}
 use Rattle.words.specs.declared.Outcome.TheVariants.{Done}

@@ -1,7 +1,8 @@
 -- What the table says of the code: whatever meets the contract of the public function that a check
 -- is of, is what the table has. `Post` is a function's contract, generated from its `ensures`: of
 -- the arguments, the answer and the parameters at exit.
-use Rattle.integers.specs.Names.{ℕ, ◌≡◌, true, List, [], ◌∷◌, pos, ◌*ℤ◌, fits_width}
+use Rattle.std.specs.Prelude.{ℕ, ◌≡◌, true, List, [], ◌∷◌, pos, ◌*ℤ◌}
+use Rattle.integers.specs.Names.{fits_width}
 use contract.Lifetimes.{Lfts}
 use Rattle.std.specs.Borrow.{Bor}
 use Rattle.words.specs.declared.Outcome.{Outcome}

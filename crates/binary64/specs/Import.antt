@@ -8,8 +8,8 @@ use Rattle.std.specs.Float.Ieee.{up, down, of_bits}
 use Rattle.std.specs.Float.Ieee.Scale.{finite}
 use Rattle.std.specs.Float.Ieee.Positive.{num, den}
 use Rattle.std.specs.Float.Ieee.Nearest.{closest}
-use Rattle.integers.specs.Names.{ℕ, ◌*◌, Bool, true, false, not, cond, eqb}
-use Rattle.integers.specs.Names.{ℤ, pos, neg_ℤ, cleared}
+use Rattle.std.specs.Prelude.{ℕ, ◌*◌, Bool, true, false, not, cond, eqb, ℤ, pos, neg_ℤ}
+use Rattle.integers.specs.Names.{cleared}
 use Rattle.words.specs.declared.Outcome.{Outcome}
 use Rattle.words.specs.declared.Format.{Format}
 use Rattle.words.specs.declared.PlainAnswer.{PlainAnswer}

@@ -2,8 +2,9 @@
 -- behind the point, and whether any digit behind that one is 1. What Import.antt says does not rest
 -- on this.
 use Rattle.std.specs.Prelude.{◌/◌, ◌%◌, min}
-use Rattle.integers.specs.Names.{ℕ, ◌+◌, ◌-◌, ◌*◌, ◌^◌, Bool, not, cond, eqb, bit_and, bit_or}
-use Rattle.integers.specs.Names.{ℤ, pos, turned, cleared}
+use Rattle.std.specs.Prelude.{ℕ, ◌+◌, ◌-◌, ◌*◌, ◌^◌, Bool, not, cond, eqb, bit_and, bit_or, ℤ}
+use Rattle.std.specs.Prelude.{pos}
+use Rattle.integers.specs.Names.{turned, cleared}
 use Rattle.binary64.specs.declared.Parts.{Parts}
 use Rattle.binary64.specs.Import.{Quotient, signed}
 

@@ -1,7 +1,8 @@
 -- Document 01, "Digit text": the digits, their bytes, writing a word as text, and what a text is
 -- worth.
-use Rattle.integers.specs.Names.{ℕ, zero, suc, ◌-◌, ◌^◌, cond, List, [], ◌∷◌, eqb, ltb, ℤ, pos}
-use Rattle.integers.specs.Names.{negsuc, ◌+ℤ◌, ◌-ℤ◌, ◌*ℤ◌, length, get_or, digit, tab}
+use Rattle.std.specs.Prelude.{ℕ, zero, suc, ◌-◌, ◌^◌, cond, List, [], ◌∷◌, eqb, ltb, ℤ, pos}
+use Rattle.std.specs.Prelude.{negsuc, ◌+ℤ◌, ◌-ℤ◌, ◌*ℤ◌, length, get_or}
+use Rattle.integers.specs.Names.{digit, tab}
 use Rattle.words.specs.declared.Outcome.{Outcome}
 use Rattle.words.specs.declared.RoundBit.{RoundBit}
 use Rattle.words.specs.declared.RoundBitWord.{RoundBitWord}

@@ -1,6 +1,7 @@
 -- Document 01, "Digit text": reading back; and document 02, Ask 3: "Say which digit is wrong."
-use Rattle.integers.specs.Names.{ℕ, Bool, not, cond, ◌&&◌, ◌||◌, List, eqb, ltb, ℤ, pos, ◌-ℤ◌}
-use Rattle.integers.specs.Names.{length, get_or, first_bad}
+use Rattle.std.specs.Prelude.{ℕ, Bool, not, cond, ◌&&◌, ◌||◌, List, eqb, ltb, ℤ, pos, ◌-ℤ◌}
+use Rattle.std.specs.Prelude.{length, get_or}
+use Rattle.integers.specs.Names.{first_bad}
 use Rattle.words.specs.declared.Cause.{Cause}
 use Rattle.words.specs.declared.Outcome.{Outcome}
 use Rattle.words.specs.declared.RoundBitWord.{RoundBitWord}

@@ -1,7 +1,7 @@
 -- Document 02, Ask 1, "Eight-tap boards": one channel's output. A bank is a list of rows of taps, a
 -- window a list of samples. The code's types give a bank four rows, a row eight taps and a window
 -- eight samples; of lists of other lengths nothing here is meant.
-use Rattle.integers.specs.Names.{ℕ, Bool, false, ◌||◌, List, [], ◌∷◌, ltb, get_or, ℤ, pos, ◌+ℤ◌}
+use Rattle.std.specs.Prelude.{ℕ, Bool, false, ◌||◌, List, [], ◌∷◌, ltb, get_or, ℤ, pos, ◌+ℤ◌}
 use Rattle.words.specs.declared.Outcome.{Outcome}
 use Rattle.words.specs.declared.Outcome.TheVariants.{Done}
 use Rattle.words.specs.declared.Format.{Format}

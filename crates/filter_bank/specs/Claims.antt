@@ -1,6 +1,6 @@
 -- What is claimed of one channel's output.
-use Rattle.integers.specs.Names.{ℕ, suc, ◌^◌, ◌≤◌, ◌≡◌, List, [], ◌∷◌, length}
-use Rattle.integers.specs.Names.{ℤ, pos, nat_abs, ◌+ℤ◌, ◌-ℤ◌, ◌*ℤ◌}
+use Rattle.std.specs.Prelude.{ℕ, suc, ◌^◌, ◌≤◌, ◌≡◌, List, [], ◌∷◌, length, ℤ, pos, nat_abs, ◌+ℤ◌}
+use Rattle.std.specs.Prelude.{◌-ℤ◌, ◌*ℤ◌}
 use Rattle.std.specs.Prelude.{reverse}
 use Rattle.words.specs.declared.Outcome.TheVariants.{Done}
 use Rattle.words.specs.declared.RoundBitWord.{RoundBitWord}

@@ -1,7 +1,7 @@
 -- The C boundary: how a flat word is read, and how an answer is laid flat. An outcome is its number
 -- in the table of refusals, 0 for done.
 use Rattle.std.specs.Prelude.{map}
-use Rattle.integers.specs.Names.{ℕ, List}
+use Rattle.std.specs.Prelude.{ℕ, List}
 use Rattle.words.specs.declared.Outcome.{Outcome}
 use Rattle.words.specs.declared.PlainWord.{PlainWord}
 use Rattle.words.specs.declared.RoundBitWord.{RoundBitWord}

@@ -1,7 +1,7 @@
 -- Demand 3 as a caller of the C functions sees it: calls on one running sum, each made on the sum
 -- that came back from the call before, and the two totals, from the calls and their answers alone.
 -- Values are in half units of the sum's unit, 2 ^ e.
-use Rattle.integers.specs.Names.{ℕ, zero, suc, List, [], ◌∷◌, ℤ, pos, ◌+ℤ◌}
+use Rattle.std.specs.Prelude.{ℕ, zero, suc, List, [], ◌∷◌, ℤ, pos, ◌+ℤ◌}
 use Rattle.words.specs.RoundBit.{round_bit_value}
 use Rattle.running_sum.specs.Totals.{amount}
 use Rattle.frostuldi.specs.Boundary.{round_bit_in}

@@ -1,5 +1,6 @@
 -- Document 01, "Half-unit words": the two sums, and product.
-use Rattle.integers.specs.Names.{◌+◌, ℤ, pos, ◌+ℤ◌, ◌-ℤ◌, ◌*ℤ◌, floor_by, cleared}
+use Rattle.std.specs.Prelude.{◌+◌, ℤ, pos, ◌+ℤ◌, ◌-ℤ◌, ◌*ℤ◌}
+use Rattle.integers.specs.Names.{floor_by, cleared}
 use Rattle.words.specs.declared.Outcome.{Outcome}
 use Rattle.words.specs.declared.Format.{Format}
 use Rattle.words.specs.declared.HalfUnitWord.{HalfUnitWord}

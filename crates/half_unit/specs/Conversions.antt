@@ -1,5 +1,6 @@
 -- Document 01, "Half-unit words": from and to plain, from and to round-bit.
-use Rattle.integers.specs.Names.{ℕ, ◌+◌, cond, eqb, ℤ, pos, ◌+ℤ◌, ◌*ℤ◌, floor_by, any_below, cleared}
+use Rattle.std.specs.Prelude.{ℕ, ◌+◌, cond, eqb, ℤ, pos, ◌+ℤ◌, ◌*ℤ◌}
+use Rattle.integers.specs.Names.{floor_by, any_below, cleared}
 use Rattle.words.specs.declared.Outcome.{Outcome}
 use Rattle.words.specs.declared.PlainWord.{PlainWord}
 use Rattle.words.specs.declared.PlainAnswer.{PlainAnswer}

@@ -1,5 +1,6 @@
 -- Document 01, "Half-unit words": sign change and cut.
-use Rattle.integers.specs.Names.{ℕ, turned, floor_by}
+use Rattle.std.specs.Prelude.{ℕ}
+use Rattle.integers.specs.Names.{turned, floor_by}
 use Rattle.words.specs.declared.Outcome.{Outcome}
 use Rattle.words.specs.declared.HalfUnitWord.{HalfUnitWord}
 use Rattle.words.specs.declared.HalfUnitAnswer.{HalfUnitAnswer}

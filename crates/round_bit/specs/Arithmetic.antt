@@ -1,6 +1,6 @@
 -- Document 01, "Round-bit words": sum and difference, product, to plain and from plain.
-use Rattle.integers.specs.Names.{◌+◌, ◌-◌, Bool, true, false, exactly_one, bit_and, bit_or, pos, ◌+ℤ◌}
-use Rattle.integers.specs.Names.{◌*ℤ◌, lt_z}
+use Rattle.std.specs.Prelude.{◌+◌, ◌-◌, Bool, true, false, bit_and, bit_or, pos, ◌+ℤ◌, ◌*ℤ◌}
+use Rattle.integers.specs.Names.{exactly_one, lt_z}
 use Rattle.words.specs.declared.Outcome.{Outcome}
 use Rattle.words.specs.declared.Format.{Format}
 use Rattle.words.specs.declared.PlainWord.{PlainWord}

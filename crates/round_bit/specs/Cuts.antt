@@ -1,6 +1,6 @@
 -- Document 01, "Round-bit words": sign change, cut, rest of a cut, even cut (its rule is Ask 2 of
 -- document 02), widening on the right.
-use Rattle.integers.specs.Names.{ℕ, zero, suc, ◌-◌, ◌*◌, ◌^◌, Bool, cond, ℤ, pos, ◌+ℤ◌, ◌*ℤ◌}
+use Rattle.std.specs.Prelude.{ℕ, zero, suc, ◌-◌, ◌*◌, ◌^◌, Bool, cond, ℤ, pos, ◌+ℤ◌, ◌*ℤ◌}
 use Rattle.integers.specs.Names.{eq_z, turned, floor_by, lowest, digit, low_digits}
 use Rattle.words.specs.declared.Outcome.{Outcome}
 use Rattle.words.specs.declared.RoundBit.{RoundBit}

@@ -1,6 +1,6 @@
 -- Document 02, Ask 8, "Cuts and sign changes mixed", of round-bit words. What a run is, and what is
 -- claimed of its end, stands once for both kinds of word, in specs/Moves.antt of `words`.
-use Rattle.integers.specs.Names.{ℕ, suc, ◌+◌, ◌≡◌, List}
+use Rattle.std.specs.Prelude.{ℕ, suc, ◌+◌, ◌≡◌, List}
 use Rattle.words.specs.declared.Outcome.TheVariants.{Done}
 use Rattle.words.specs.declared.RoundBitWord.{RoundBitWord}
 use Rattle.words.specs.RoundBit.{round_bit_value, round_bit_check}

@@ -1,5 +1,5 @@
 -- Document 01, "The running sum": opening, and one call on any running sum.
-use Rattle.integers.specs.Names.{ℕ, ◌-◌, ◌||◌, eqb, ltb, ℤ, pos, ◌+ℤ◌}
+use Rattle.std.specs.Prelude.{ℕ, ◌-◌, ◌||◌, eqb, ltb, ℤ, pos, ◌+ℤ◌}
 use Rattle.words.specs.declared.Outcome.{Outcome}
 use Rattle.words.specs.declared.Outcome.TheVariants.{Done, Refused}
 use Rattle.words.specs.declared.Format.{Format}

@@ -1,6 +1,6 @@
 -- Demand 3: a list of calls on a running sum, and the two totals, from the calls, their answers and
 -- the sum's unit alone.
-use Rattle.integers.specs.Names.{ℕ, ◌^◌, List, [], ◌∷◌, ℤ, pos, negsuc, ◌+ℤ◌, ◌-ℤ◌, ◌*ℤ◌}
+use Rattle.std.specs.Prelude.{ℕ, ◌^◌, List, [], ◌∷◌, ℤ, pos, negsuc, ◌+ℤ◌, ◌-ℤ◌, ◌*ℤ◌}
 use Rattle.words.specs.declared.Outcome.{Outcome}
 use Rattle.words.specs.declared.Outcome.TheVariants.{Done, Refused}
 use Rattle.words.specs.declared.RoundBitWord.{RoundBitWord}

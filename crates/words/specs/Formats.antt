@@ -1,6 +1,6 @@
 -- The formats of answers, and the refusals 5, 6 and 7 that they meet. A format here is any width
 -- and unit, however large.
-use Rattle.integers.specs.Names.{ℕ, ◌+◌, ◌-◌, ltb, ℤ, pos, ◌+ℤ◌, ◌-ℤ◌}
+use Rattle.std.specs.Prelude.{ℕ, ◌+◌, ◌-◌, ltb, ℤ, pos, ◌+ℤ◌, ◌-ℤ◌}
 use Rattle.words.specs.declared.Outcome.{Outcome}
 use Rattle.words.specs.declared.Outcome.TheVariants.{Done, Refused}
 use Rattle.words.specs.declared.Format.{Format}

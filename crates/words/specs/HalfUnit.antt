@@ -1,5 +1,5 @@
 -- Half-unit words: "Half-unit word w: value w + 1/2 units .."
-use Rattle.integers.specs.Names.{ℤ, pos}
+use Rattle.std.specs.Prelude.{ℤ, pos}
 use Rattle.words.specs.declared.Cause.{Cause}
 use Rattle.words.specs.declared.Outcome.{Outcome}
 use Rattle.words.specs.declared.Outcome.TheVariants.{Done, Refused}

@@ -1,7 +1,7 @@
 -- Document 02, Ask 8, "Cuts and sign changes mixed": what round-bit and half-unit words share.
 use Rattle.std.specs.Prelude.{◌<◌}
-use Rattle.integers.specs.Names.{ℕ, zero, suc, ◌+◌, ◌^◌, ◌≤◌, ◌≡◌, Bool, false, not, cond}
-use Rattle.integers.specs.Names.{List, [], ◌∷◌, ℤ, pos, neg_ℤ, nat_abs, ◌-ℤ◌, ◌*ℤ◌}
+use Rattle.std.specs.Prelude.{ℕ, zero, suc, ◌+◌, ◌^◌, ◌≤◌, ◌≡◌, Bool, false, not, cond, List, []}
+use Rattle.std.specs.Prelude.{◌∷◌, ℤ, pos, neg_ℤ, nat_abs, ◌-ℤ◌, ◌*ℤ◌}
 use Rattle.words.specs.declared.Outcome.{Outcome}
 use Rattle.words.specs.declared.Outcome.TheVariants.{Done}
 use Rattle.words.specs.declared.Format.{Format}

@@ -1,5 +1,5 @@
 -- Plain words: "Plain word x: value x units (two's complement)."
-use Rattle.integers.specs.Names.{ℤ, pos}
+use Rattle.std.specs.Prelude.{ℤ, pos}
 use Rattle.words.specs.declared.Cause.{Cause}
 use Rattle.words.specs.declared.Outcome.{Outcome}
 use Rattle.words.specs.declared.Outcome.TheVariants.{Done, Refused}

@@ -1,5 +1,5 @@
 -- Round-bit words: "Round-bit word (a, r), r 0 or 1: value a + r units .."
-use Rattle.integers.specs.Names.{ℕ, ℤ, pos}
+use Rattle.std.specs.Prelude.{ℕ, ℤ, pos}
 use Rattle.words.specs.declared.Cause.{Cause}
 use Rattle.words.specs.declared.Outcome.{Outcome}
 use Rattle.words.specs.declared.Outcome.TheVariants.{Done, Refused}

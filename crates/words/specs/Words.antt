@@ -1,5 +1,6 @@
 -- Document 01, "The words", in its order.
-use Rattle.integers.specs.Names.{ℕ, Bool, not, ◌&&◌, leb, ℤ, pos, neg_ℤ, ◌+ℤ◌, ◌*ℤ◌, lies, fits_width}
+use Rattle.std.specs.Prelude.{ℕ, Bool, not, ◌&&◌, leb, ℤ, pos, neg_ℤ, ◌+ℤ◌, ◌*ℤ◌}
+use Rattle.integers.specs.Names.{lies, fits_width}
 use Rattle.words.specs.declared.Format.{Format}
 
 -- "Three kinds of word."

@@ -1,0 +1,16 @@
+use Prim.Native.Nat.{◌≤◌, ◌-◌}
+use mathlib.Core.Path.{◌≡◌, refl, sym, ◌∙◌}
+use native.Mathlib.Omega.{arith}
+use lib.ListN.{length}
+use borrow.Author.Tests.{eq-eqb, ne_eqb}
+use Rattle.digit_text.specs.Digits.{plus, sign_before}
+use Rattle.digit_text.specs.Reading.{read_round}
+use Rattle.digit_text.proofs.Scan.{sign_next}
+use borrow.Author.Rules.{rules}
+use Rattle.digit_text.proofs.read_round.Given as goal
+
+abbrev pub invariant-loop-k : goal.invariant-loop-k
+invariant-loop-k l = (l.k ≤ length l.text) × (l.before ≡ sign_before l.text l.k)
+
+abbrev pub decreases-loop-k : goal.decreases-loop-k
+decreases-loop-k l = length l.text - l.k

@@ -1,0 +1,15 @@
+use Prim.Native.Nat.{◌+◌, ◌-◌, ◌≤◌}
+use native.Mathlib.Omega.{arith}
+use mathlib.Core.Path.{◌≡◌, refl, ◌∙◌}
+use mathlib.Core.Bool.{◌||◌}
+use lib.ListN.{drop}
+use Rattle.filter_bank.specs.Bank.{any_differ}
+use Rattle.filter_bank.proofs.Along.{differ_turn, row_end}
+use borrow.Author.Rules.{rules}
+use Rattle.filter_bank.proofs.any_differ.Given as goal
+
+abbrev pub invariant-loop-i : goal.invariant-loop-i
+invariant-loop-i l = (l.i ≤ 8) × (any_differ l.f l.w ≡ any_differ l.f (drop l.i l.w))
+
+abbrev pub decreases-loop-i : goal.decreases-loop-i
+decreases-loop-i l = 8 - l.i

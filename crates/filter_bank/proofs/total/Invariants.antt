@@ -1,0 +1,13 @@
+use Prim.Native.Nat.{◌-◌, ◌≤◌}
+use native.Mathlib.Omega.{arith}
+use mathlib.Core.Path.{◌≡◌, sym}
+use lib.ListN.{length}
+use Rattle.filter_bank.proofs.Summing.{Kept, tap_small, sample_small, times_small, first_kept, next_kept, all_kept}
+use borrow.Author.Rules.{rules}
+use Rattle.filter_bank.proofs.total.Given as goal
+
+abbrev pub invariant-loop-i : goal.invariant-loop-i
+invariant-loop-i l = (l.i ≤ 8) × Kept l.taps l.window l.i l.sum
+
+abbrev pub decreases-loop-i : goal.decreases-loop-i
+decreases-loop-i l = 8 - l.i

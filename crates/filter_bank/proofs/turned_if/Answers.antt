@@ -1,0 +1,6 @@
+use Rattle.filter_bank.proofs.Times.{turned_xor}
+use borrow.Author.Rules.{rules}
+use Rattle.filter_bank.proofs.turned_if.Goals as goal
+
+pub returns : goal.returns
+returns c = turned_xor c.args.test c.args.r c.requires
