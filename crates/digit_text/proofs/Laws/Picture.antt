@@ -1,7 +1,7 @@
 -- The picture that texts are written by (document 000, section 3.1): on top the word doubled, with the round bit in the free place on the right,
 -- at the bottom the word. Assumes nothing.
 -- Proved here: `top_digit`, `top_less_bottom`, `rows_value`, `rows_cut`, `rows_turned`.
-use Prim.Native.Nat.{ℕ, zero, suc, ◌-◌, ◌*◌, ◌≤◌}
+use Prim.Native.Nat.{ℕ, zero, suc, ◌-◌, ◌≤◌}
 use native.Mathlib.Numerals.{one-add}
 use mathlib.Core.Path.{◌≡◌, refl, sym, ap, ◌∙◌}
 use lib.IntN.{ℤ, pos, ◌+ℤ◌, ◌-ℤ◌, ◌*ℤ◌}

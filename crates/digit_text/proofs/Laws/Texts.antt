@@ -7,7 +7,7 @@ use mathlib.Core.Path.{◌≡◌, refl, sym, ap, ◌∙◌}
 use mathlib.Core.Bool.{cond}
 use mathlib.Core.List.{◌++◌, map}
 use lib.Dec.{eqb}
-use lib.IntN.{pos, ◌+ℤ◌, ◌-ℤ◌, ◌*ℤ◌, +ℤ_invr}
+use lib.IntN.{ℤ, pos, ◌+ℤ◌, ◌-ℤ◌, ◌*ℤ◌, +ℤ_invr}
 use lib.Signed.{mag}
 use lib.ListN.{length, take, replicate}
 use lib.Seq.{take_at}
@@ -111,7 +111,10 @@ unfolding byte_of
 widened_digits x h zero = refl
 widened_digits x h (suc k) =
     let y : RoundBit = record { 0 = pos 2 *ℤ x.0 +ℤ pos x.1; 1 = x.1 } in
-    rw (digit_widened x.0 x.1 k h, widened_twice x.0 x.1 k, widened_bit y h k, widened_digits y h k, +ℤ_invr (pos x.1))
+    let once : widened x (suc k) ≡ widened y k = ap (λ (a : ℤ). record { 0 = a; 1 = x.1 }) (widened_twice x.0 x.1 k) in
+    let below : bit_below (widened x (suc k)) k ≡ x.1 = ap (λ (z : RoundBit). bit_below z k) once ∙ widened_bit y h k in
+    let rest : digits_text (widened x (suc k)) k ≡ replicate k none = ap (λ (z : RoundBit). digits_text z k) once ∙ widened_digits y h k in
+    rw (digit_widened x.0 x.1 k h, below, rest, +ℤ_invr (pos x.1))
 
 pub widen_text : (w : RoundBitWord) (d : ℕ) → (widen_of w d).outcome ≡ Done → text (widen_of w d).word ≡ text w ++ replicate d none
 unfolding widen_word

@@ -1,7 +1,6 @@
 use mathlib.Core.Path.{◌∙◌}
 use mir.Facts.{to_z-of_z}
 use Rattle.words.specs.Refusals.{format_check}
-use borrow.Author.Rules.{rules}
 use Rattle.digit_text.proofs.format_check.Goals as goal
 
 pub returns-in-Refused : goal.returns-in-Refused

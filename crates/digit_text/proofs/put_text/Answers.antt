@@ -7,7 +7,7 @@ use lib.IntN.{ℤ, pos, ◌-ℤ◌}
 use lib.ListN.{length, set, length-set}
 use mir.Facts.{to_z-of_z}
 use mir.Syntax.{w64}
-use mir.Val.{to_z, of_z}
+use mir.Val.{SFits, to_z, of_z}
 use Rattle.integers.specs.Numbers.{floor_by, digit}
 use Rattle.integers.specs.Lists.{over}
 use Rattle.integers.proofs.Floor.{floor_none, floor_floor}
@@ -18,11 +18,13 @@ use Rattle.words.proofs.Laws.{round_bit_right, machine}
 use Rattle.digit_text.specs.Digits.{byte_of, byte_at}
 use Rattle.digit_text.proofs.Laws.Picture.{top_row, top_less_bottom}
 use borrow.Author.Rules.{rules}
-use Rattle.digit_text.proofs.put_text.Invariants.{bytes, picture}
+use Rattle.digit_text.proofs.put_text.Invariants.{bytes}
 use Rattle.digit_text.proofs.put_text.Goals as goal
-use Rattle.digit_text.proofs.put_text.Lts as lts
-use Rattle.digit_text.proofs.put_text.Reads as reads
-use Rattle.digit_text.proofs.put_text.Tie as tie
+
+-- ---- the bytes of the picture are the word's
+picture : (w : RoundBitWord) (n : ℕ) → w.number.1 ≤ 1 → n ≡ w.format.width → bytes (top_row w.number) w.number.0 n ≡ byte_at w
+unfolding byte_at
+picture w n h e = rw e (fun_ext (λ k. ap byte_of (top_less_bottom w.number h (w.format.width - 1 - k))))
 
 -- ---- before the first turn nothing is struck off
 whole : (row : ℤ) (n : ℕ) → row ≡ floor_by row (n - n)
@@ -45,57 +47,35 @@ over_last f (x ∷ l) (suc k) v h e = ap (λ t. f zero ∷ t) (over_last (λ j. 
 pub loop-columns-init : goal.loop-columns-init
 loop-columns-init c = (search rules, refl, whole _ _, whole _ _, refl)
 
-module _ (c : lts.After-floor_by2 tie.the-claims reads.Pre reads.Post goal.the-invariant-loop-columns goal.the-decreases-loop-columns) where
-  abbrev t : lts.In-loop tie.the-claims reads.Pre reads.Post goal.the-invariant-loop-columns goal.the-decreases-loop-columns
-  t = c.before.before.before.before
-
-  abbrev l : lts.At-loop tie.the-claims reads.Pre reads.Post goal.the-invariant-loop-columns goal.the-decreases-loop-columns
-  l = t.before
-
-  abbrev s : lts.Start tie.the-claims reads.Pre reads.Post goal.the-invariant-loop-columns goal.the-decreases-loop-columns
-  s = l.before.before.before.before
-
-  abbrev top₀ : ℤ
-  top₀ = to_z w64 (of_z w64 l.doubled-top_row.result)
-
-  abbrev bottom₀ : ℤ
-  bottom₀ = to_z w64 (of_z w64 s.args.w.number.0)
-
-  some : 0 < l.loop-columns.columns
-  some = t.loop-columns-test.taken
-
-  byte : c.byte_of.result ≡ bytes top₀ bottom₀ s.args.n (l.loop-columns.columns - 1)
-  byte =
-      let column = c.top_less_bottom in
-      let top = rightmost _ _ _ _ some l.loop-columns.inv.0 l.loop-columns.inv.2 in
-      let bottom = rightmost _ _ _ _ some l.loop-columns.inv.0 l.loop-columns.inv.3 in
-      let digits = column.ensures ∙ ap₂ (λ (x y : ℕ). pos x -ℤ pos y) top bottom in
-      c.byte_of.ensures ∙ ap byte_of (to_z-of_z {w = w64} (record { sfits = column.type_inv }) ∙ digits)
+-- the byte of the rightmost column of the two rows that are left
+column : (top bottom x y : ℤ) (n m : ℕ) → 0 < m → m ≤ n → x ≡ floor_by top (n - m) → y ≡ floor_by bottom (n - m) →
+    byte_of (pos (digit x 0) -ℤ pos (digit y 0)) ≡ bytes top bottom n (m - 1)
+column top bottom x y n m h k e f =
+    ap₂ (λ (a b : ℕ). byte_of (pos a -ℤ pos b)) (rightmost top x n m h k e) (rightmost bottom y n m h k f)
 
 pub loop-columns-preserved : goal.loop-columns-preserved
 loop-columns-preserved c =
-    let b = (l c).loop-columns in
-    let top = c.floor_by-top_row in
-    let bottom = c.floor_by-bottom_row in
-    let one : suc (b.columns - 1) ≡ b.columns = omega (arith, some c) in (
+    let b = c.loop-columns in
+    let some = c.loop-columns-test.true in
+    let top : SFits w64 c.floor_by-top_row.result = search rules in
+    let bottom : SFits w64 c.floor_by-bottom_row.result = search rules in
+    let digit_fits : SFits w64 c.top_less_bottom.result = search rules in
+    let byte = c.byte_of.ensures ∙ ap byte_of (to_z-of_z digit_fits ∙ c.top_less_bottom.ensures) ∙ column _ _ _ _ _ _ some b.invariant.0 b.invariant.2 b.invariant.3 in
+    let one : suc (b.columns - 1) ≡ b.columns = omega (arith, some) in (
       search rules,
-      simp length-set b.inv.1,
-      to_z-of_z {w = w64} (record { sfits = top.type_inv }) ∙ top.ensures ∙ struck _ _ _ _ (some c) b.inv.0 b.inv.2,
-      to_z-of_z {w = w64} (record { sfits = bottom.type_inv }) ∙ bottom.ensures ∙ struck _ _ _ _ (some c) b.inv.0 b.inv.3,
-      over_last _ b.text (b.columns - 1) _ (omega (arith, some c)) (byte c) ∙ rw one b.inv.4,
+      simp length-set b.invariant.1,
+      to_z-of_z top ∙ c.floor_by-top_row.ensures ∙ struck _ _ _ _ some b.invariant.0 b.invariant.2,
+      to_z-of_z bottom ∙ c.floor_by-bottom_row.ensures ∙ struck _ _ _ _ some b.invariant.0 b.invariant.3,
+      over_last _ b.text (b.columns - 1) _ (omega (arith, some)) byte ∙ rw one b.invariant.4,
     )
 
 pub returns : goal.returns
 returns c =
-    let s = c.before.before.before.before.before in
-    let w = s.args.w in
-    let n = s.args.n in
-    let right = round_bit_right w s.requires.0 in
-    let row = c.doubled-top_row in
-    let top : to_z w64 (of_z w64 row.result) ≡ top_row w.number = to_z-of_z {w = w64} (record { sfits = row.type_inv }) ∙ row.ensures in
+    let w = c.args.w in
+    let n = c.args.n in
+    let right = round_bit_right w c.requires.0 in
+    let fits : SFits w64 c.doubled-top_row.result = search rules in
+    let top : to_z w64 (of_z w64 c.doubled-top_row.result) ≡ top_row w.number = to_z-of_z fits ∙ c.doubled-top_row.ensures in
     let none : c.loop-columns.columns ≡ 0 = omega arith in
     let all = rw (none, top, to_z-of_z (machine right)) at c.loop-columns.invariant.4 in
-    over_none _ _ ∙ all ∙ ap (λ (f : ℕ → ℕ). over n f s.args.text.now) (picture w n right.bit s.requires.1)
-
-pub doubled-top_row-requires : goal.doubled-top_row-requires
-doubled-top_row-requires c = c.requires.0
+    over_none _ _ ∙ all ∙ ap (λ (f : ℕ → ℕ). over n f c.args.text.now) (picture w n right.bit c.requires.1)

@@ -1,11 +1,12 @@
 use Prim.Native.Nat.{ℕ}
-use mathlib.Core.Path.{◌≡◌, sym, ap, ◌∙◌}
-use mathlib.Core.List.{List}
-use lib.IntN.{ℤ}
 use native.Mathlib.Omega.{arith}
+use mathlib.Core.List.{List}
+use mathlib.Core.Path.{◌≡◌, sym, ap, ◌∙◌}
+use lib.IntN.{ℤ}
 use mir.Facts.{to_z-of_z}
 use Rattle.words.specs.RoundBit.{round_bit_done, round_bit_refused}
 use Rattle.words.specs.declared.Cause.{Cause}
+use Rattle.words.specs.declared.Outcome.{Outcome}
 use Rattle.words.specs.declared.Outcome.TheVariants.{Done, Refused}
 use Rattle.words.specs.declared.RoundBitWord.{RoundBitWord}
 use Rattle.words.proofs.Arms.{refusing, answering}
@@ -13,11 +14,7 @@ use Rattle.digit_text.specs.declared.Finding.{Finding}
 use Rattle.digit_text.specs.declared.ReadAnswer.{ReadAnswer}
 use Rattle.digit_text.specs.Reading.{read_check, place_of, finding, read_word, read_answer, read_refused, read_of}
 use Rattle.digit_text.proofs.Places.{place_fits}
-use borrow.Author.Rules.{rules}
 use Rattle.digit_text.proofs.read.Goals as goal
-use Rattle.digit_text.proofs.read.Lts as lts
-use Rattle.digit_text.proofs.read.Reads as reads
-use Rattle.digit_text.proofs.read.Tie as tie
 
 -- the two answers, by their place
 abbrev refused_at : Cause → ℕ → ReadAnswer
@@ -26,45 +23,40 @@ refused_at c k = record { outcome = Refused c; word = (round_bit_refused c).word
 abbrev done_at : RoundBitWord → ℕ → ReadAnswer
 done_at w k = record { outcome = Done; word = w; place = k }
 
--- what the check found: an outcome, and a place that fits
-module _ (c : lts.After-read_check tie.the-claims reads.Pre reads.Post) where
-  abbrev start : lts.Start tie.the-claims reads.Pre reads.Post
-  start = c.before.before
+-- what the check found: an outcome, and the place that this outcome tells
+module _ (f : Finding) (t : List ℕ) (e : ℤ) (checked : f ≡ finding t (read_check t e)) where
+  outcome : f.outcome ≡ read_check t e
+  outcome = ap (λ (x : Finding). x.outcome) checked
 
-  abbrev text : List ℕ
-  text = start.args.text.now
+  place : f.place ≡ place_of t (read_check t e)
+  place = ap (λ (x : Finding). x.place) checked
 
-  abbrev unit : ℤ
-  unit = start.args.unit
-
-  checked : c.read_check-found.result ≡ finding text (read_check text unit)
-  checked = c.read_check-found.ensures ∙ rw (to_z-of_z start.ranges.unit)
-
-  outcome : c.read_check-found.result.outcome ≡ read_check text unit
-  outcome = ap (λ (f : Finding). f.outcome) checked
-
-  place : c.read_check-found.result.place ≡ place_of text (read_check text unit)
-  place = ap (λ (f : Finding). f.place) checked
+  told : (o : Outcome) → f.outcome ≡ o → f.place ≡ place_of t o
+  told o h = place ∙ ap (place_of t) (sym outcome ∙ h)
 
 pub overflow_cast-place : goal.overflow_cast-place
-overflow_cast-place c = let b = c in rw (place c.before.before) (omega (arith, place_fits (text c.before.before) (unit c.before.before)))
-
-pub read_word-requires : goal.read_word-requires
-read_word-requires c =
-    rw (to_z-of_z (start c.before.before.before.before).ranges.unit) (sym (outcome c.before.before.before.before) ∙ c.in-Done.is)
+overflow_cast-place c =
+    let t = c.args.text.now in
+    let e = c.args.unit in
+    let checked : c.read_check-found.result ≡ finding t (read_check t e) = c.read_check-found.ensures ∙ rw (to_z-of_z c.ranges.unit) in
+    rw (place _ t e checked) (omega (arith, place_fits t e))
 
 pub returns-in-Refused : goal.returns-in-Refused
 unfolding read_of
 returns-in-Refused c =
-    let refused = c.in-Refused.is in
-    let told = place c.before.before.before.before.before.before ∙ ap (place_of (text c.before.before.before.before.before.before)) (sym (outcome c.before.before.before.before.before.before) ∙ refused) in
-    refusing (read_refused (text c.before.before.before.before.before.before)) _ _ _ _ _ (outcome c.before.before.before.before.before.before) refused (c.read_refused.ensures ∙ ap (refused_at _) told)
+    let t = c.args.text.now in
+    let e = c.args.unit in
+    let checked : c.read_check-found.result ≡ finding t (read_check t e) = c.read_check-found.ensures ∙ rw (to_z-of_z c.ranges.unit) in
+    let here = told _ t e checked _ c.in-Refused.is in
+    refusing (read_refused t) _ _ _ _ _ (outcome _ t e checked) c.in-Refused.is (c.read_refused.ensures ∙ ap (refused_at _) here)
 
 pub returns-in-Done : goal.returns-in-Done
 unfolding read_of place_of
 returns-in-Done c =
-    let done = c.in-Done.is in
-    let told : c.read_check-found.result.place ≡ 0 = place c.before.before.before.before.before.before ∙ ap (place_of (text c.before.before.before.before.before.before)) (sym (outcome c.before.before.before.before.before.before) ∙ done) in
-    let made : c.read_word.result ≡ read_word (text c.before.before.before.before.before.before) (unit c.before.before.before.before.before.before) = c.read_word.ensures ∙ rw (to_z-of_z (start c.before.before.before.before.before.before).ranges.unit) in
-    let answered = c.read_done.ensures ∙ ap (done_at _) told in
-    answering (read_refused (text c.before.before.before.before.before.before)) (λ w. read_answer (round_bit_done w)) _ _ _ _ _ (outcome c.before.before.before.before.before.before) done made answered
+    let t = c.args.text.now in
+    let e = c.args.unit in
+    let checked : c.read_check-found.result ≡ finding t (read_check t e) = c.read_check-found.ensures ∙ rw (to_z-of_z c.ranges.unit) in
+    let here : c.read_check-found.result.place ≡ 0 = told _ t e checked Done c.in-Done.is in
+    let made : c.read_word.result ≡ read_word t e = c.read_word.ensures ∙ rw (to_z-of_z c.ranges.unit) in
+    let answered = c.read_done.ensures ∙ ap (done_at _) here in
+    answering (read_refused t) (λ w. read_answer (round_bit_done w)) _ _ _ _ _ (outcome _ t e checked) c.in-Done.is made answered

@@ -1,4 +1,5 @@
-use Prim.Native.Nat.{◌≤◌, ◌-◌}
+use Prim.Native.Nat.{ℕ, ◌≤◌}
+use mathlib.Core.List.{List}
 use mathlib.Core.Path.{◌≡◌, refl, sym, ◌∙◌}
 use native.Mathlib.Omega.{arith}
 use lib.ListN.{length}
@@ -8,9 +9,6 @@ use Rattle.digit_text.specs.Reading.{read_round}
 use Rattle.digit_text.proofs.Scan.{sign_next}
 use borrow.Author.Rules.{rules}
 use Rattle.digit_text.proofs.read_round.Goals as goal
-use Rattle.digit_text.proofs.read_round.Lts as lts
-use Rattle.digit_text.proofs.read_round.Reads as reads
-use Rattle.digit_text.proofs.read_round.Tie as tie
 
 pub loop-k-init : goal.loop-k-init
 unfolding sign_before
@@ -19,16 +17,18 @@ loop-k-init c = (search rules, refl)
 pub loop-k-preserved : goal.loop-k-preserved
 loop-k-preserved c = (search rules, sign_next _ _ _ _ c.loop-k-test.true c.loop-k.invariant.1 c.sign_after-before.ensures)
 
-at-end : (c : lts.After-loop tie.the-claims reads.Pre reads.Post goal.the-invariant-loop-k goal.the-decreases-loop-k) →
-    sign_before c.args.text.now (length c.args.text.now) ≡ c.loop-k.before
-at-end c =
-    let e : c.loop-k.k ≡ length c.args.text.now = omega arith in
-    rw (← e) (sym c.loop-k.invariant.1)
+-- at the end the sign before is the text's last
+at_end : (t : List ℕ) (k b : ℕ) → k ≤ length t → length t ≤ k → b ≡ sign_before t k → sign_before t (length t) ≡ b
+at_end t k b h l e = let all : k ≡ length t = omega arith in rw (← all) (sym e)
 
 pub returns-then-before-eq43 : goal.returns-then-before-eq43
 unfolding read_round
-returns-then-before-eq43 c = rw (eq-eqb _ plus (at-end c.before.before ∙ c.if-before-eq43.true))
+returns-then-before-eq43 c =
+    let e = at_end c.args.text.now c.loop-k.k c.loop-k.before c.loop-k.invariant.0 c.loop-k-test.false c.loop-k.invariant.1 in
+    rw (eq-eqb _ plus (e ∙ c.if-before-eq43.true))
 
 pub returns-else-before-eq43 : goal.returns-else-before-eq43
 unfolding read_round
-returns-else-before-eq43 c = rw (ne_eqb _ plus (λ e. c.if-before-eq43.false (sym (at-end c.before.before) ∙ e)))
+returns-else-before-eq43 c =
+    let e = at_end c.args.text.now c.loop-k.k c.loop-k.before c.loop-k.invariant.0 c.loop-k-test.false c.loop-k.invariant.1 in
+    rw (ne_eqb _ plus (λ p. c.if-before-eq43.false (sym e ∙ p)))

@@ -1,12 +1,7 @@
 use Prim.Native.Nat.{◌≤◌, ◌-◌}
-use mathlib.Core.Path.{◌≡◌, refl, sym, ◌∙◌}
-use native.Mathlib.Omega.{arith}
+use mathlib.Core.Path.{◌≡◌}
 use lib.ListN.{length}
-use borrow.Author.Tests.{eq-eqb, ne_eqb}
-use Rattle.digit_text.specs.Digits.{plus, sign_before}
-use Rattle.digit_text.specs.Reading.{read_round}
-use Rattle.digit_text.proofs.Scan.{sign_next}
-use borrow.Author.Rules.{rules}
+use Rattle.digit_text.specs.Digits.{sign_before}
 use Rattle.digit_text.proofs.read_round.Given as goal
 
 abbrev pub invariant-loop-k : goal.invariant-loop-k

@@ -1,5 +1,4 @@
 use Rattle.digit_text.specs.Digits.{write_check}
-use borrow.Author.Rules.{rules}
 use Rattle.digit_text.proofs.write_check.Goals as goal
 
 pub returns-in-Refused : goal.returns-in-Refused

@@ -1,9 +1,0 @@
-use borrow.Author.Rules.{rules}
-use borrow.Author.Tests.{lt-ltb, le-ltb}
-use Rattle.digit_text.proofs.fault_at.Goals as goal
-
-pub returns-then-k-n : goal.returns-then-k-n
-returns-then-k-n c = rw (lt-ltb _ _ c.if-k-n.true) c.refused_at.ensures
-
-pub returns-else-k-n : goal.returns-else-k-n
-returns-else-k-n c = rw (le-ltb _ _ c.if-k-n.false)
