@@ -1,12 +1,12 @@
 -- One turn of each loop along a row, and its end. Assumes nothing.
 -- Proved here: `check_refused`, `check_passed`, `differ_turn`, `products_turn`, `row_end`, `check_end`.
-use Prim.Native.Nat.{ℕ, suc, ◌+◌, ◌<◌}
+use Prim.Native.Nat.{ℕ, ◌+◌, ◌<◌}
 use native.Mathlib.Numerals.{add-one}
 use native.Mathlib.Omega.{arith}
 use mathlib.Core.Path.{◌≡◌, ◌∙◌}
 use mathlib.Core.Bool.{◌||◌}
 use mathlib.Core.List.{List, [], ◌∷◌}
-use lib.ListN.{length, get_or, drop, drop_of_length-le}
+use lib.ListN.{length, drop, drop_of_length-le}
 use lib.Seq.{drop-cons}
 use Rattle.words.specs.Refusals.{◌or_else◌, differ}
 use Rattle.words.specs.RoundBit.{round_bit_check}

@@ -19,6 +19,7 @@ use Rattle.words.specs.declared.RoundBitWord.{RoundBitWord}
 use Rattle.words.proofs.Laws.{passed, three_passed, or-false}
 use Rattle.round_bit.specs.declared.CutAnswer.{CutAnswer}
 use Rattle.round_bit.specs.Cuts.{cut_check, cut_answer}
+use Rattle.round_bit.specs.Arithmetic.{sum_of}
 use Rattle.round_bit.proofs.Laws.Cuts.{cut_passes, cut_closed, cut_value, cut_format}
 use Rattle.filter_bank.specs.Bank.{most_channel, cut_depth, products, total, output_word, products_unit, row_check, unit_check, channel_check}
 use Rattle.filter_bank.specs.Bank.{output_answer}
@@ -32,7 +33,7 @@ use Rattle.filter_bank.proofs.Laws.Downward.{total_downward}
 sum_answers_count : (w : RoundBitWord) (ps : List RoundBitWord) → length (sum_answers w ps) ≡ length ps
 unfolding sum_answers
 sum_answers_count w [] = refl
-sum_answers_count w (p ∷ more) = ap suc (sum_answers_count _ more)
+sum_answers_count w (p ∷ more) = ap suc (sum_answers_count (sum_of w p).word more)
 
 additions_count : (ps : List RoundBitWord) → length (additions ps) ≡ length ps - 1
 additions_count [] = refl

@@ -1,11 +1,7 @@
-use Prim.Native.Nat.{◌+◌, ◌-◌, ◌≤◌}
-use native.Mathlib.Omega.{arith}
-use mathlib.Core.Path.{◌≡◌, refl, ◌∙◌}
-use mathlib.Core.Bool.{◌||◌}
+use Prim.Native.Nat.{◌-◌, ◌≤◌}
+use mathlib.Core.Path.{◌≡◌}
 use lib.ListN.{drop}
 use Rattle.filter_bank.specs.Bank.{any_differ}
-use Rattle.filter_bank.proofs.Along.{differ_turn, row_end}
-use borrow.Author.Rules.{rules}
 use Rattle.filter_bank.proofs.any_differ.Given as goal
 
 abbrev pub invariant-loop-i : goal.invariant-loop-i

@@ -1,45 +1,34 @@
+use Prim.Native.Nat.{ℕ}
 use mathlib.Core.Path.{◌≡◌, sym, ◌∙◌}
-use native.Mathlib.Omega.{arith}
-use lib.Bits.{and_le_l}
+use lib.IntN.{pos}
+use lib.Signed.{lt_z}
 use mir.Syntax.{w64}
-use mir.Val.{SFits}
+use mir.Val.{SFits, to_z, of_z}
 use mir.Facts.{to_z-of_z}
 use Rattle.integers.proofs.ExactlyOne.{exactly_one_lem}
-use Rattle.round_bit.specs.Arithmetic.{negative, magnitude}
-use Rattle.round_bit.proofs.Laws.Signs.{signs_if_bit}
+use Rattle.words.specs.declared.RoundBit.{RoundBit}
+use Rattle.round_bit.specs.Arithmetic.{negative, sign_changed_if, magnitude}
 use Rattle.filter_bank.proofs.Times.{turned_bit, product_bit_is}
 use borrow.Author.Rules.{rules}
 use Rattle.filter_bank.proofs.product_bit.Goals as goal
-use Rattle.filter_bank.proofs.product_bit.Lts as lts
-use Rattle.filter_bank.proofs.product_bit.Reads as reads
-use Rattle.filter_bank.proofs.product_bit.Tie as tie
 
-module _ (c : lts.After-turned_if tie.the-claims reads.Pre reads.Post) where
-  abbrev s : lts.Start tie.the-claims reads.Pre reads.Post
-  s = c.before.before.before.before.before
-
-  t-fits : SFits w64 s.args.t.0
-  t-fits = search rules
-
-  s-fits : SFits w64 s.args.s.0
-  s-fits = search rules
-
-  first : c.turned_if.result ≡ (magnitude s.args.t).1
-  first = c.turned_if.ensures ∙ rw (to_z-of_z t-fits, turned_bit)
-
-second : (c : lts.After-turned_if2 tie.the-claims reads.Pre reads.Post) → c.turned_if-2.result ≡ (magnitude (s c.before).args.s).1
-second c = c.turned_if-2.ensures ∙ rw (to_z-of_z (s-fits c.before), turned_bit)
-
-pub turned_if-requires-3 : goal.turned_if-requires-3
-turned_if-requires-3 c =
-    let b = s c.before in
-    let one = signs_if_bit (negative b.args.t) b.args.t b.requires.0 in
-    omega (arith, first c.before, one, and_le_l c.turned_if.result c.turned_if-2.result)
+-- a round bit turned over with its number's sign, as the machine has the number, is that of the magnitude
+magnitude_bit : (n : RoundBit) (r : ℕ) → SFits w64 n.0 →
+    r ≡ (sign_changed_if (lt_z (to_z w64 (of_z w64 n.0)) (pos 0)) (record { 0 = pos 0; 1 = n.1 })).1 → r ≡ (magnitude n).1
+magnitude_bit n r f e = e ∙ rw (to_z-of_z f) (sym (turned_bit (negative n) n))
 
 pub returns : goal.returns
 returns c =
-    let one = c.before.before in
-    let b = s c.before.before in
+    let t = c.args.t in
+    let s = c.args.s in
+    let f : SFits w64 t.0 = search rules in
+    let g : SFits w64 s.0 = search rules in
     c.turned_if-3.ensures
-    ∙ rw (first c.before.before, second c.before, to_z-of_z (t-fits c.before.before), to_z-of_z (s-fits c.before.before), exactly_one_lem (negative b.args.t) (negative b.args.s))
-    (sym (product_bit_is b.args.t b.args.s))
+    ∙ rw (
+      magnitude_bit t _ f c.turned_if.ensures,
+      magnitude_bit s _ g c.turned_if-2.ensures,
+      to_z-of_z f,
+      to_z-of_z g,
+      exactly_one_lem (negative t) (negative s),
+    )
+    (sym (product_bit_is t s))

@@ -1,11 +1,8 @@
 use Prim.Native.Nat.{◌-◌, ◌≤◌}
-use native.Mathlib.Omega.{arith}
-use mathlib.Core.Path.{◌≡◌, refl, ◌∙◌}
+use mathlib.Core.Path.{◌≡◌}
 use lib.ListN.{drop}
 use Rattle.words.specs.declared.Outcome.TheVariants.{Done}
 use Rattle.filter_bank.specs.Bank.{words_check}
-use Rattle.filter_bank.proofs.Along.{check_refused, check_passed, check_end}
-use borrow.Author.Rules.{rules}
 use Rattle.filter_bank.proofs.row_check.Given as goal
 
 -- along the taps

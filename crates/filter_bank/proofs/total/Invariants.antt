@@ -1,9 +1,5 @@
 use Prim.Native.Nat.{◌-◌, ◌≤◌}
-use native.Mathlib.Omega.{arith}
-use mathlib.Core.Path.{◌≡◌, sym}
-use lib.ListN.{length}
-use Rattle.filter_bank.proofs.Summing.{Kept, tap_small, sample_small, times_small, first_kept, next_kept, all_kept}
-use borrow.Author.Rules.{rules}
+use Rattle.filter_bank.proofs.Summing.{Kept}
 use Rattle.filter_bank.proofs.total.Given as goal
 
 abbrev pub invariant-loop-i : goal.invariant-loop-i

@@ -1,5 +1,4 @@
 use Rattle.filter_bank.proofs.Times.{turned_xor}
-use borrow.Author.Rules.{rules}
 use Rattle.filter_bank.proofs.turned_if.Goals as goal
 
 pub returns : goal.returns
