@@ -12,7 +12,7 @@ use Rattle.integers.proofs.Chains.{chain_map}
 use Rattle.words.specs.Refusals.{number_of}
 use Rattle.words.specs.declared.{Format.Format, Outcome.{Outcome, TheVariants.Done}, RoundBitWord.RoundBitWord}
 use Rattle.running_sum.specs.declared.{RunningSum.RunningSum, OpenAnswer.OpenAnswer}
-use Rattle.running_sum.specs.Steps.{Call, blank, open_of, step_of}
+use Rattle.running_sum.specs.Steps.{Call, open_of, step_of}
 use Rattle.running_sum.specs.Totals.{Answered, taken_in, given_out, accepted, handed_out}
 use Rattle.running_sum.proofs.Conserved.{step_outcome, shut}
 use Rattle.running_sum.proofs.Links.{Meets, Links, linked_refused, linked_totals, linked_small, linked_near, linked_equal}

@@ -1,9 +1,0 @@
-use borrow.Author.Rules.{rules}
-use Rattle.frostuldi.proofs.block_sum_out.Statement.{statement}
-use Rattle.frostuldi.proofs.block_sum_out.Tie as tie
-
-returns : tie.Need-returns
-returns c = rw (c.number_of_lem.ensures, c.before.flat-round-bit.ensures)
-
-pub block-sum-out-spec : {M : Type 1} → statement M
-block-sum-out-spec = tie.close (tie.spec (λ c κs. search rules) (λ c κs. search rules) returns)
