@@ -5,7 +5,7 @@
 // from second/check_edges.py, which was written from document 01 alone.
 #![tactic(auto)]
 
-use libc::STDOUT_FILENO;
+use std::io;
 use words::{Format, HalfUnit, HalfUnitWord, Plain, PlainWord, RoundBit, RoundBitWord};
 
 const WIDTHS: [u32; 6] = [0, 1, 2, 63, 64, 4294967295];
@@ -27,16 +27,16 @@ const NUMBERS: [i64; 12] = [
     9223372036854775807,
 ];
 
-fn print_signed(x: i64) {
+fn print_signed(rt: &impl Print, x: i64) -> io::Result<()> {
     if x < 0 {
-        io::write_all(STDOUT_FILENO, b"-");
+        rt.write_all(b"-")?;
     }
-    io::print_decimal(STDOUT_FILENO, integers::absolute(x));
+    rt.print(integers::absolute(x))
 }
 
-fn print_outcome(n: u32) {
-    io::write_all(STDOUT_FILENO, b" ");
-    io::print_decimal(STDOUT_FILENO, n as u64);
+fn print_outcome(rt: &impl Print, n: u32) -> io::Result<()> {
+    rt.write_all(b" ")?;
+    rt.print(n)
 }
 
 fn plain(x: i64, f: Format) -> u32 {
@@ -60,38 +60,40 @@ fn round_bit(x: i64, r: u8, f: Format) -> u32 {
     }))
 }
 
-fn line(x: i64, f: Format) {
-    io::print_decimal(STDOUT_FILENO, f.width as u64);
-    io::write_all(STDOUT_FILENO, b" ");
-    print_signed(integers::wide(f.unit));
-    io::write_all(STDOUT_FILENO, b" ");
-    print_signed(x);
-    print_outcome(plain(x, f));
-    print_outcome(half_unit(x, f));
-    print_outcome(round_bit(x, 0, f));
-    print_outcome(round_bit(x, 1, f));
-    print_outcome(round_bit(x, 2, f));
-    print_outcome(round_bit(x, 255, f));
-    io::write_all(STDOUT_FILENO, b"\n");
+fn line(rt: &impl Print, x: i64, f: Format) -> io::Result<()> {
+    rt.print(f.width)?;
+    rt.write_all(b" ")?;
+    print_signed(rt, integers::wide(f.unit))?;
+    rt.write_all(b" ")?;
+    print_signed(rt, x)?;
+    print_outcome(rt, plain(x, f))?;
+    print_outcome(rt, half_unit(x, f))?;
+    print_outcome(rt, round_bit(x, 0, f))?;
+    print_outcome(rt, round_bit(x, 1, f))?;
+    print_outcome(rt, round_bit(x, 2, f))?;
+    print_outcome(rt, round_bit(x, 255, f))?;
+    rt.write_all(b"\n")
 }
 
 // The i-th of the 360 combinations, the number changing fastest and the width slowest.
-fn combination(i: usize) {
+fn combination(rt: &impl Print, i: usize) -> io::Result<()> {
     let width = WIDTHS[i / 60 % 6];
     let unit = UNITS[i / 12 % 5];
     line(
+        rt,
         NUMBERS[i % 12],
         Format {
             width: width,
             unit: unit,
         },
-    );
+    )
 }
 
-fn main() {
+fn main(rt: HostRuntime) -> io::Result<()> {
     let mut i = 0;
     while i < 360 {
-        combination(i);
+        combination(&rt, i)?;
         i += 1;
     }
+    Ok(())
 }
