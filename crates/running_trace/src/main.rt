@@ -6,8 +6,8 @@
 // comes from second/running_trace.py, which was written from document 01 alone.
 #![tactic(auto)]
 
-use libc::STDOUT_FILENO;
 use running_sum::RunningSum;
+use std::io;
 use words::{Format, RoundBit, RoundBitWord};
 
 // A signed total: what was added less what was taken off, so that no addition can overflow unseen.
@@ -21,8 +21,8 @@ const NOTHING: Total = Total { more: 0, less: 0 };
 
 fn add(a: Total, b: Total) -> Total {
     Total {
-        more: std::num::wrapping_add_u64(a.more, b.more),
-        less: std::num::wrapping_add_u64(a.less, b.less),
+        more: a.more.wrapping_add(b.more),
+        less: a.less.wrapping_add(b.less),
     }
 }
 
@@ -159,56 +159,57 @@ fn empty(t: Trace) -> Trace {
     }
 }
 
-fn print_text(text: &[u8]) {
-    io::write_all(STDOUT_FILENO, text);
+fn print_text(rt: &impl Print, text: &[u8]) -> io::Result<()> {
+    rt.write_all(text)
 }
 
-fn print_count(n: u64) {
-    io::print_decimal(STDOUT_FILENO, n);
+fn print_count(rt: &impl Print, n: u64) -> io::Result<()> {
+    rt.print(n)
 }
 
-fn print_total(a: Total) {
+fn print_total(rt: &impl Print, a: Total) -> io::Result<()> {
     if a.more < a.less {
-        print_text(b"-");
-        print_count(std::num::wrapping_sub_u64(a.less, a.more));
+        print_text(rt, b"-")?;
+        print_count(rt, a.less.wrapping_sub(a.more))?;
     } else {
-        print_count(std::num::wrapping_sub_u64(a.more, a.less));
+        print_count(rt, a.more.wrapping_sub(a.less))?;
     }
+    Ok(())
 }
 
-fn print_word(w: RoundBitWord) {
+fn print_word(rt: &impl Print, w: RoundBitWord) -> io::Result<()> {
     if w.number.0 < 0 {
-        print_text(b"-");
+        print_text(rt, b"-")?;
     }
-    print_count(integers::absolute(w.number.0));
-    print_text(b" ");
-    print_count(w.number.1 as u64);
+    print_count(rt, integers::absolute(w.number.0))?;
+    print_text(rt, b" ")?;
+    print_count(rt, w.number.1 as u64)
 }
 
-fn print_outcome(t: Trace) {
-    print_text(b" ");
-    print_count(t.outcome as u64);
+fn print_outcome(rt: &impl Print, t: Trace) -> io::Result<()> {
+    print_text(rt, b" ")?;
+    print_count(rt, t.outcome as u64)
 }
 
-fn print_answer(t: Trace) {
-    print_outcome(t);
-    print_text(b" word ");
-    print_word(t.word);
+fn print_answer(rt: &impl Print, t: Trace) -> io::Result<()> {
+    print_outcome(rt, t)?;
+    print_text(rt, b" word ")?;
+    print_word(rt, t.word)
 }
 
-fn print_kept(t: Trace) {
-    print_text(b" kept ");
-    print_word(t.sum.kept);
-    print_text(b"\n");
+fn print_kept(rt: &impl Print, t: Trace) -> io::Result<()> {
+    print_text(rt, b" kept ")?;
+    print_word(rt, t.sum.kept)?;
+    print_text(rt, b"\n")
 }
 
-fn print_totals(t: Trace) {
-    print_text(b" in ");
-    print_total(t.accepted);
-    print_text(b" out ");
-    print_total(t.handed_out);
-    print_text(b" kept ");
-    print_total(value(t.sum.kept));
+fn print_totals(rt: &impl Print, t: Trace) -> io::Result<()> {
+    print_text(rt, b" in ")?;
+    print_total(rt, t.accepted)?;
+    print_text(rt, b" out ")?;
+    print_total(rt, t.handed_out)?;
+    print_text(rt, b" kept ")?;
+    print_total(rt, value(t.sum.kept))
 }
 
 fn opened(width: u32, unit: i32, depth: u64, faulty: bool) -> Trace {
@@ -228,26 +229,27 @@ fn opened(width: u32, unit: i32, depth: u64, faulty: bool) -> Trace {
 }
 
 // P14: a put and a hand-out, and what each leaves.
-fn bench(t: Trace, number: i64, round: u8) -> Trace {
+fn bench(rt: &impl Print, t: Trace, number: i64, round: u8) -> io::Result<Trace> {
     let word = RoundBitWord {
         number: RoundBit(number, round),
         format: Format { width: 8, unit: 0 },
     };
     let a = put(t, word);
-    print_text(b"put");
-    print_outcome(a);
-    print_kept(a);
+    print_text(rt, b"put")?;
+    print_outcome(rt, a)?;
+    print_kept(rt, a)?;
     let b = hand_out(a);
-    print_text(b"hand out");
-    print_answer(b);
-    print_kept(b);
-    b
+    print_text(rt, b"hand out")?;
+    print_answer(rt, b)?;
+    print_kept(rt, b)?;
+    Ok(b)
 }
 
-fn bench_sheet() {
-    let a = bench(opened(8, 0, 2, false), 3, 0);
-    let b = bench(a, 3, 0);
-    bench(b, 0, 1);
+fn bench_sheet(rt: &impl Print) -> io::Result<()> {
+    let a = bench(rt, opened(8, 0, 2, false), 3, 0)?;
+    let b = bench(rt, a, 3, 0)?;
+    bench(rt, b, 0, 1)?;
+    Ok(())
 }
 
 // The sum and the faulty one, and where the signal is.
@@ -302,51 +304,51 @@ fn empty_both(r: Run) -> Run {
 
 // Two hand-outs in a row; a great word, the same again, which does not fit, and its opposite; a word of
 // another unit.
-fn six_calls(r: Run) -> Run {
-    print_text(b"calls");
+fn six_calls(rt: &impl Print, r: Run) -> io::Result<Run> {
+    print_text(rt, b"calls")?;
     let a = hand_out_both(r);
-    print_outcome(a.sum);
+    print_outcome(rt, a.sum)?;
     let b = hand_out_both(a);
-    print_outcome(b.sum);
+    print_outcome(rt, b.sum)?;
     let c = put_both(b, fine(8000000, 0, -8));
-    print_outcome(c.sum);
+    print_outcome(rt, c.sum)?;
     let d = put_both(c, fine(8000000, 0, -8));
-    print_outcome(d.sum);
+    print_outcome(rt, d.sum)?;
     let e = put_both(d, fine(-8000000, 0, -8));
-    print_outcome(e.sum);
+    print_outcome(rt, e.sum)?;
     let f = put_both(e, fine(1, 1, -7));
-    print_outcome(f.sum);
-    print_text(b"\n");
-    f
+    print_outcome(rt, f.sum)?;
+    print_text(rt, b"\n")?;
+    Ok(f)
 }
 
-fn emptied(r: Run) -> Run {
+fn emptied(rt: &impl Print, r: Run) -> io::Result<Run> {
     let a = empty_both(r);
-    print_text(b"empty");
-    print_answer(a.sum);
-    print_text(b"\n");
-    a
+    print_text(rt, b"empty")?;
+    print_answer(rt, a.sum)?;
+    print_text(rt, b"\n")?;
+    Ok(a)
 }
 
-fn print_run(r: Run, k: u64) {
-    print_count(k);
-    print_totals(r.sum);
-    print_text(b" crept");
-    print_totals(r.crept);
-    print_text(b" by ");
+fn print_run(rt: &impl Print, r: Run, k: u64) -> io::Result<()> {
+    print_count(rt, k)?;
+    print_totals(rt, r.sum)?;
+    print_text(rt, b" crept")?;
+    print_totals(rt, r.crept)?;
+    print_text(rt, b" by ")?;
     let kept = value(r.crept.sum.kept);
-    print_total(take(take(r.crept.accepted, r.crept.handed_out), kept));
-    print_text(b"\n");
+    print_total(rt, take(take(r.crept.accepted, r.crept.handed_out), kept))?;
+    print_text(rt, b"\n")
 }
 
-fn thousandth(r: Run, k: u64) -> Run {
-    let a = six_calls(r);
-    let b = if k % 5000 == 0 { emptied(a) } else { a };
-    print_run(b, k);
-    b
+fn thousandth(rt: &impl Print, r: Run, k: u64) -> io::Result<Run> {
+    let a = six_calls(rt, r)?;
+    let b = if k % 5000 == 0 { emptied(rt, a)? } else { a };
+    print_run(rt, b, k)?;
+    Ok(b)
 }
 
-fn advanced(r: Run, k: u64) -> Run {
+fn advanced(rt: &impl Print, r: Run, k: u64) -> io::Result<Run> {
     let x = next(r.signal);
     let sum = r.sum;
     let crept = r.crept;
@@ -357,11 +359,15 @@ fn advanced(r: Run, k: u64) -> Run {
     };
     let a = put_both(there, signal_word(x));
     let b = if k % 16 == 0 { hand_out_both(a) } else { a };
-    if k % 1000 == 0 { thousandth(b, k) } else { b }
+    if k % 1000 == 0 {
+        thousandth(rt, b, k)
+    } else {
+        Ok(b)
+    }
 }
 
-fn main() {
-    bench_sheet();
+fn main(rt: HostRuntime) -> io::Result<()> {
+    bench_sheet(&rt)?;
     let mut run = Run {
         sum: opened(24, -8, 8, false),
         crept: opened(24, -8, 8, true),
@@ -370,6 +376,7 @@ fn main() {
     let mut k: u64 = 0;
     while k < 10000 {
         k += 1;
-        run = advanced(run, k);
+        run = advanced(&rt, run, k)?;
     }
+    Ok(())
 }
