@@ -1,10 +1,16 @@
-// Reading a file to its end and writing a text whole, over C's `read` and `write`.
+// Reading a file to its end and writing a text whole, over a reader's `read` and a writer's `write`.
 //
-// A call that fails is not the end of a file, nor a text that was written; `io`'s two loops do not tell these
-// apart. No contract can say which bytes C's calls move. What is said is how many: never more than there is
-// room for, and `Whole` of a text only once all of it was taken.
-ghost use Rattle.std.specs.Prelude.{◌≡◌, ◌≤◌, length};
+// A call that fails is not the end of a file, nor a text that was written. `std`'s loops tell these apart, but not
+// how much was moved before a failure, and they make an interrupted call again for as good as ever. What is said is
+// which bytes are moved, of a reader and a writer that say which they have, and how many: never more than there is
+// room for, and `Whole` of a text only once all of it was taken. No contract can say which bytes the streams of the
+// process have.
+ghost use Rattle.std.specs.Prelude.{◌≡◌, ◌<◌, ◌≤◌, length, take};
 ghost use Rattle.io.specs.Counts.{IsPrefixLen};
+ghost use Rattle.std.specs.Io.{ReadsAtMost, WritesAtMost};
+ghost use Rattle.std.specs.Io.KnownBytes.{Appends, Consumes, IsAtEnd, ReadConsumes, WriteAppends};
+
+use std::io::{Error, ErrorKind, Read, Result, Write};
 
 // A call that a signal interrupts is made again, but a loop has to end: so many in a row are an error.
 const MOST_INTERRUPTED: u32 = 1000;
@@ -12,8 +18,8 @@ const MOST_INTERRUPTED: u32 = 1000;
 #[derive(Clone, Copy)]
 pub(crate) enum End {
     Whole,
-    // errno says why.
-    Failed,
+    // The error says why.
+    Failed(Error),
     // A write took nothing, and did not fail.
     Stuck,
 }
@@ -25,78 +31,64 @@ pub(crate) struct Run {
     pub(crate) end: End,
 }
 
-#[derive(Clone, Copy)]
-struct Call {
-    count: usize,
-    failed: bool,
+fn read_once<R: Read>(reader: &mut R, buf: &mut [u8]) -> Result<usize>
+    ensures bound { ReadsAtMost result buf.new }
+    ensures bytes { ReadConsumes (R.remaining reader.old) (R.remaining reader.new) result buf.new }
+{
+    for _ in 1..MOST_INTERRUPTED {
+        match reader.read(buf) {
+            Ok(n) => return Ok(n),
+            Err(e) => {
+                if e.kind() != ErrorKind::Interrupted {
+                    return Err(e);
+                }
+            }
+        }
+    }
+    reader.read(buf)
 }
 
-const FAILED: Call = Call {
-    count: 0,
-    failed: true,
-};
-
-fn read_once(fd: i32, buf: &mut [u8]) -> Call
-    ensures { result.count ≤ length buf.old }
+fn write_once<W: Write>(writer: &mut W, buf: &[u8]) -> Result<usize>
+    ensures bound { WritesAtMost result buf.now }
+    ensures bytes { WriteAppends (W.contents writer.old) (W.contents writer.new) result buf.now }
 {
-    let mut left = MOST_INTERRUPTED;
-    while 0 < left {
-        let got = libc::read(fd, buf);
-        if 0 <= got {
-            return Call {
-                count: io::count(got, buf),
-                failed: false,
-            };
+    for _ in 1..MOST_INTERRUPTED {
+        match writer.write(buf) {
+            Ok(n) => return Ok(n),
+            Err(e) => {
+                if e.kind() != ErrorKind::Interrupted {
+                    return Err(e);
+                }
+            }
         }
-        if os::errno() != libc::EINTR {
-            return FAILED;
-        }
-        left -= 1;
     }
-    FAILED
-}
-
-fn write_once(fd: i32, buf: &[u8]) -> Call
-    ensures { result.count ≤ length buf.now }
-{
-    let mut left = MOST_INTERRUPTED;
-    while 0 < left {
-        let put = libc::write(fd, buf);
-        if 0 <= put {
-            return Call {
-                count: io::count(put, buf),
-                failed: false,
-            };
-        }
-        if os::errno() != libc::EINTR {
-            return FAILED;
-        }
-        left -= 1;
-    }
-    FAILED
+    writer.write(buf)
 }
 
 // Reads until the file ends or the buffer is full.
-pub(crate) fn read_to_end(fd: i32, buf: &mut [u8]) -> Run
+pub(crate) fn read_to_end<R: Read>(reader: &mut R, buf: &mut [u8]) -> Run
     ensures prefix_len { IsPrefixLen result.count buf.new }
     ensures end_value { result.count ≡ length buf.new → result.end ≡ End.Whole }
+    ensures bytes { Consumes (R.remaining reader.old) (R.remaining reader.new) (take result.count buf.new) }
+    ensures file_end { result.end ≡ End.Whole → result.count < length buf.new → IsAtEnd (R.remaining reader.new) }
 {
     let mut done = 0;
     while done < buf.len() {
-        let call = read_once(fd, &mut buf[done..]);
-        if call.failed {
-            return Run {
-                count: done,
-                end: End::Failed,
-            };
+        match read_once(reader, &mut buf[done..]) {
+            Ok(0) => {
+                return Run {
+                    count: done,
+                    end: End::Whole,
+                };
+            }
+            Ok(n) => done += n,
+            Err(e) => {
+                return Run {
+                    count: done,
+                    end: End::Failed(e),
+                };
+            }
         }
-        if call.count == 0 {
-            return Run {
-                count: done,
-                end: End::Whole,
-            };
-        }
-        done += call.count;
     }
     Run {
         count: done,
@@ -105,27 +97,29 @@ pub(crate) fn read_to_end(fd: i32, buf: &mut [u8]) -> Run
 }
 
 // Writes all of a text.
-pub(crate) fn write_whole(fd: i32, text: &[u8]) -> Run
+pub(crate) fn write_whole<W: Write>(writer: &mut W, text: &[u8]) -> Run
     ensures count_in_bounds { result.count ≤ length text.now }
     ensures count_value { result.end ≡ End.Whole → result.count ≡ length text.now }
     ensures end_value { result.count ≡ length text.now → result.end ≡ End.Whole }
+    ensures bytes { Appends (W.contents writer.old) (W.contents writer.new) (take result.count text.now) }
 {
     let mut done = 0;
     while done < text.len() {
-        let call = write_once(fd, &text[done..]);
-        if call.failed {
-            return Run {
-                count: done,
-                end: End::Failed,
-            };
+        match write_once(writer, &text[done..]) {
+            Ok(0) => {
+                return Run {
+                    count: done,
+                    end: End::Stuck,
+                };
+            }
+            Ok(n) => done += n,
+            Err(e) => {
+                return Run {
+                    count: done,
+                    end: End::Failed(e),
+                };
+            }
         }
-        if call.count == 0 {
-            return Run {
-                count: done,
-                end: End::Stuck,
-            };
-        }
-        done += call.count;
     }
     Run {
         count: done,

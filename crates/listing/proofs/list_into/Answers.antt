@@ -21,9 +21,7 @@ use Rattle.block_file.specs.Kinds.{KindRow, kind_row}
 use Rattle.block_file.proofs.Laws.Kinds.{each_row}
 use Rattle.listing_text.specs.Listing.{listing, longest_listing, listed, list_check, head_line, refused_line, room_check, list_of, text_after}
 use Rattle.listing_text.proofs.Laws.Lengths.{longest_listing_lem}
-use borrow.Author.Rules.{rules}
-use Rattle.listing.proofs.list_into.Statement.{statement}
-use Rattle.listing.proofs.list_into.Tie as tie
+use Rattle.listing.proofs.list_into.Goals as goal
 
 abbrev Begins : KindRow → Type 0
 Begins row = (more : List ℕ) → eqb (get_or (row.name ++ more) 0 0) 114 ≡ false
@@ -61,18 +59,17 @@ module _ (file text : List ℕ) (long : length text ≡ longest_listing) where
   unfolding listing
   told = rw text_is (first_of (list_check file) _ _ _ _)
 
-returns : tie.Need-returns
+pub returns : goal.returns
 returns c =
-    let at-args = c.before.before.before.before in
-    let file = at-args.args.file.now in
-    let text = at-args.args.text.now in
-    let long : length text ≡ longest_listing = search rules in
-    let listed = c.before.list in
-    let count = count-is file text long _ listed.ensures.0 in
-    let after = listed.ensures.1 in (
-      prefix_len_of_le _ _ (omega (arith, longest_listing_lem file, count, listed.auto.1.0)),
-      (rw after (whole file text long _ listed.ensures.0), rw after (told file text long)),
-    )
-
-pub list-into-spec : {M : Type 1} → statement M
-list-into-spec = tie.close (tie.spec (λ c κs. search rules) (λ c. search rules) returns)
+    let file = c.args.file.now in
+    let text = c.args.text.now in
+    let long : length text ≡ longest_listing = c.told-text in
+    let count = count-is file text long _ c.list-a.ensures.value in
+    let after = c.list-a.ensures.text_new in
+    let first = told file text long in
+    record {
+      prefix_len = prefix_len_of_le _ _ (omega (arith, longest_listing_lem file, count, long, c.list-a.auto.text));
+      text_new = rw after (whole file text long _ c.list-a.ensures.value);
+      file_value = rw after first.0;
+      refused_value = rw after first.1;
+    }
