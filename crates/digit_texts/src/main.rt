@@ -6,26 +6,26 @@
 #![tactic(auto)]
 
 use digit_text::ReadAnswer;
-use libc::STDOUT_FILENO;
+use std::io;
 use words::{Format, RoundBit, RoundBitWord, WriteAnswer};
 
 const BYTES: [u8; 4] = [b'+', b'0', b'-', b'x'];
 
-fn print_text(text: &[u8]) {
-    io::write_all(STDOUT_FILENO, text);
+fn print_text(rt: &impl Print, text: &[u8]) -> io::Result<()> {
+    rt.write_all(text)
 }
 
-fn print_count(n: u64) {
-    print_text(b" ");
-    io::print_decimal(STDOUT_FILENO, n);
+fn print_count(rt: &impl Print, n: u64) -> io::Result<()> {
+    print_text(rt, b" ")?;
+    rt.print(n)
 }
 
-fn print_signed(x: i64) {
-    print_text(b" ");
+fn print_signed(rt: &impl Print, x: i64) -> io::Result<()> {
+    print_text(rt, b" ")?;
     if x < 0 {
-        print_text(b"-");
+        print_text(rt, b"-")?;
     }
-    io::print_decimal(STDOUT_FILENO, integers::absolute(x));
+    rt.print(integers::absolute(x))
 }
 
 fn word(n: u32, a: i64, r: u8) -> RoundBitWord {
@@ -35,48 +35,53 @@ fn word(n: u32, a: i64, r: u8) -> RoundBitWord {
     }
 }
 
-fn print_written(w: RoundBitWord, a: WriteAnswer, buffer: &[u8]) {
+fn print_written(
+    rt: &impl Print,
+    w: RoundBitWord,
+    a: WriteAnswer,
+    buffer: &[u8],
+) -> io::Result<()> {
     let outcome = a.outcome;
-    print_text(b"write");
-    print_count(w.format.width as u64);
-    print_signed(w.number.0);
-    print_count(w.number.1 as u64);
-    print_count(words::number_of(outcome) as u64);
-    print_count(a.count as u64);
-    print_text(b" ");
-    print_text(buffer);
-    print_text(b"\n");
+    print_text(rt, b"write")?;
+    print_count(rt, w.format.width as u64)?;
+    print_signed(rt, w.number.0)?;
+    print_count(rt, w.number.1 as u64)?;
+    print_count(rt, words::number_of(outcome) as u64)?;
+    print_count(rt, a.count as u64)?;
+    print_text(rt, b" ")?;
+    print_text(rt, buffer)?;
+    print_text(rt, b"\n")
 }
 
-fn write_3(w: RoundBitWord) {
+fn write_3(rt: &impl Print, w: RoundBitWord) -> io::Result<()> {
     let mut buffer = [b'?'; 3];
     let a = digit_text::write(w, &mut buffer);
-    print_written(w, a, &buffer);
+    print_written(rt, w, a, &buffer)
 }
 
-fn write_4(w: RoundBitWord) {
+fn write_4(rt: &impl Print, w: RoundBitWord) -> io::Result<()> {
     let mut buffer = [b'?'; 4];
     let a = digit_text::write(w, &mut buffer);
-    print_written(w, a, &buffer);
+    print_written(rt, w, a, &buffer)
 }
 
-fn write_8(w: RoundBitWord) {
+fn write_8(rt: &impl Print, w: RoundBitWord) -> io::Result<()> {
     let mut buffer = [b'?'; 8];
     let a = digit_text::write(w, &mut buffer);
-    print_written(w, a, &buffer);
+    print_written(rt, w, a, &buffer)
 }
 
-fn write_12(w: RoundBitWord) {
+fn write_12(rt: &impl Print, w: RoundBitWord) -> io::Result<()> {
     let mut buffer = [b'?'; 12];
     let a = digit_text::write(w, &mut buffer);
-    print_written(w, a, &buffer);
+    print_written(rt, w, a, &buffer)
 }
 
 // The number with its three round bits, of which the last is none.
-fn write_number(n: u32, a: i64) {
-    write_8(word(n, a, 0));
-    write_8(word(n, a, 1));
-    write_8(word(n, a, 2));
+fn write_number(rt: &impl Print, n: u32, a: i64) -> io::Result<()> {
+    write_8(rt, word(n, a, 0))?;
+    write_8(rt, word(n, a, 1))?;
+    write_8(rt, word(n, a, 2))
 }
 
 // -1, -2, and so on.
@@ -85,114 +90,116 @@ fn below(k: u32) -> i64 {
 }
 
 // The numbers of one width: those below 0 from the lowest up, then the others.
-fn write_width(n: u32, half: u32) {
+fn write_width(rt: &impl Print, n: u32, half: u32) -> io::Result<()> {
     let mut k = half;
     while 0 < k {
         k -= 1;
-        write_number(n, below(k));
+        write_number(rt, n, below(k))?;
     }
     let mut j = 0;
     while j < half {
-        write_number(n, j as i64);
+        write_number(rt, n, j as i64)?;
         j += 1;
     }
+    Ok(())
 }
 
-fn writings() {
-    write_width(2, 2);
-    write_width(3, 4);
-    write_width(4, 8);
-    write_width(5, 16);
-    write_width(6, 32);
-    write_8(word(11, -718, 0));
-    write_12(word(11, -718, 0));
-    write_3(word(4, 5, 1));
-    write_4(word(4, 5, 1));
+fn writings(rt: &impl Print) -> io::Result<()> {
+    write_width(rt, 2, 2)?;
+    write_width(rt, 3, 4)?;
+    write_width(rt, 4, 8)?;
+    write_width(rt, 5, 16)?;
+    write_width(rt, 6, 32)?;
+    write_8(rt, word(11, -718, 0))?;
+    write_12(rt, word(11, -718, 0))?;
+    write_3(rt, word(4, 5, 1))?;
+    write_4(rt, word(4, 5, 1))
 }
 
-fn print_read(text: &[u8], a: ReadAnswer) {
+fn print_read(rt: &impl Print, text: &[u8], a: ReadAnswer) -> io::Result<()> {
     let outcome = a.outcome;
     let w = a.word;
-    print_text(b"read ");
-    print_text(text);
-    print_count(words::number_of(outcome) as u64);
-    print_signed(w.number.0);
-    print_count(w.number.1 as u64);
-    print_count(w.format.width as u64);
-    print_signed(integers::wide(w.format.unit));
-    print_count(a.place as u64);
-    print_text(b"\n");
+    print_text(rt, b"read ")?;
+    print_text(rt, text)?;
+    print_count(rt, words::number_of(outcome) as u64)?;
+    print_signed(rt, w.number.0)?;
+    print_count(rt, w.number.1 as u64)?;
+    print_count(rt, w.format.width as u64)?;
+    print_signed(rt, integers::wide(w.format.unit))?;
+    print_count(rt, a.place as u64)?;
+    print_text(rt, b"\n")
 }
 
-fn read(text: &[u8], unit: i32) {
-    print_read(text, digit_text::read(text, unit));
+fn read(rt: &impl Print, text: &[u8], unit: i32) -> io::Result<()> {
+    print_read(rt, text, digit_text::read(text, unit))
 }
 
-fn read_1(i: usize) {
+fn read_1(rt: &impl Print, i: usize) -> io::Result<()> {
     let text = [BYTES[i % 4]];
-    read(&text, 0);
+    read(rt, &text, 0)
 }
 
-fn read_2(i: usize) {
+fn read_2(rt: &impl Print, i: usize) -> io::Result<()> {
     let text = [BYTES[i / 4 % 4], BYTES[i % 4]];
-    read(&text, 0);
+    read(rt, &text, 0)
 }
 
-fn read_3(i: usize) {
+fn read_3(rt: &impl Print, i: usize) -> io::Result<()> {
     let text = [BYTES[i / 16 % 4], BYTES[i / 4 % 4], BYTES[i % 4]];
-    read(&text, 0);
+    read(rt, &text, 0)
 }
 
-fn read_4(i: usize) {
+fn read_4(rt: &impl Print, i: usize) -> io::Result<()> {
     let text = [
         BYTES[i / 64 % 4],
         BYTES[i / 16 % 4],
         BYTES[i / 4 % 4],
         BYTES[i % 4],
     ];
-    read(&text, 0);
+    read(rt, &text, 0)
 }
 
 // The texts of one length, the last byte changing fastest.
-fn read_length(n: usize, count: usize) {
+fn read_length(rt: &impl Print, n: usize, count: usize) -> io::Result<()> {
     let mut i = 0;
     while i < count {
         if n == 1 {
-            read_1(i);
+            read_1(rt, i)?;
         }
         if n == 2 {
-            read_2(i);
+            read_2(rt, i)?;
         }
         if n == 3 {
-            read_3(i);
+            read_3(rt, i)?;
         }
         if n == 4 {
-            read_4(i);
+            read_4(rt, i)?;
         }
         i += 1;
     }
+    Ok(())
 }
 
-fn readings() {
-    read(b"", 0);
-    read_length(1, 4);
-    read_length(2, 16);
-    read_length(3, 64);
-    read_length(4, 256);
-    read(b"+-", -128);
-    read(b"+-", -127);
-    read(b"+-", 0);
-    read(b"+-", 127);
-    read(b"+-", 128);
-    read(b"+ +", 0);
-    read(b"+0+", 0);
-    read(b"++-", 0);
-    read(b"+0-0-+?", 0);
+fn readings(rt: &impl Print) -> io::Result<()> {
+    read(rt, b"", 0)?;
+    read_length(rt, 1, 4)?;
+    read_length(rt, 2, 16)?;
+    read_length(rt, 3, 64)?;
+    read_length(rt, 4, 256)?;
+    read(rt, b"+-", -128)?;
+    read(rt, b"+-", -127)?;
+    read(rt, b"+-", 0)?;
+    read(rt, b"+-", 127)?;
+    read(rt, b"+-", 128)?;
+    read(rt, b"+ +", 0)?;
+    read(rt, b"+0+", 0)?;
+    read(rt, b"++-", 0)?;
+    read(rt, b"+0-0-+?", 0)?;
     let many = [b'x'; 64];
-    read(&many, 0);
+    read(rt, &many, 0)
 }
 
-fn main() {
-    writings();
-    readings();
+fn main(rt: HostRuntime) -> io::Result<()> {
+    writings(&rt)?;
+    readings(&rt)
 }
