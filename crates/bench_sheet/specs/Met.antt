@@ -4,7 +4,7 @@
 use Rattle.std.specs.Prelude.{ℕ, ◌≡◌, true, List, [], ◌∷◌, pos, ◌*ℤ◌}
 use Rattle.integers.specs.Names.{fits_width}
 use contract.Lifetimes.{Lfts}
-use Rattle.std.specs.Borrow.{Bor}
+use Rattle.std.specs.Borrow.{Bor, MutBor}
 use Rattle.words.specs.declared.Outcome.{Outcome}
 use Rattle.words.specs.declared.Outcome.TheVariants.{Done}
 use Rattle.words.specs.declared.Format.{Format}
@@ -66,7 +66,7 @@ Met (half_product x y a) = Answers flat_half_unit (half-product-function.Post tt
 Met (worth w units) = round_bit_value w ≡ pos 2 *ℤ units
 Met (fits x n) = fits_width x n ≡ true
 Met (text w lent then count) =
-    (κs : Lfts 1) (before after : Bor (List ℕ)) (r : WriteAnswer) →
+    (κs : Lfts 1) (before after : MutBor (List ℕ)) (r : WriteAnswer) →
     before.now ≡ lent → write-function.Post κs (w, (before, tt)) r (w, (after, tt)) →
     (number_of r.outcome ≡ 0) × (r.count ≡ count) × (after.now ≡ then)
 Met (reading t a k) =

@@ -8,66 +8,66 @@
 // say of the code in specs/Met.antt, and the proof of both in proofs/Bench.antt.
 #![tactic(auto)]
 
-use libc::STDOUT_FILENO;
 use running_sum::RunningSum;
+use std::io;
 use words::{
     Format, HalfUnit, HalfUnitAnswer, HalfUnitWord, Outcome, Plain, PlainWord, RoundBit,
     RoundBitAnswer, RoundBitWord,
 };
 
-fn print_text(text: &[u8]) {
-    io::write_all(STDOUT_FILENO, text);
+fn print_text(rt: &impl Print, text: &[u8]) -> io::Result<()> {
+    rt.write_all(text)
 }
 
-fn print_count(n: u64) {
-    print_text(b" ");
-    io::print_decimal(STDOUT_FILENO, n);
+fn print_count(rt: &impl Print, n: u64) -> io::Result<()> {
+    print_text(rt, b" ")?;
+    rt.print(n)
 }
 
-fn print_signed(x: i64) {
-    print_text(b" ");
+fn print_signed(rt: &impl Print, x: i64) -> io::Result<()> {
+    print_text(rt, b" ")?;
     if x < 0 {
-        print_text(b"-");
+        print_text(rt, b"-")?;
     }
-    io::print_decimal(STDOUT_FILENO, integers::absolute(x));
+    rt.print(integers::absolute(x))
 }
 
-fn print_format(f: Format) {
-    print_count(f.width as u64);
-    print_signed(integers::wide(f.unit));
+fn print_format(rt: &impl Print, f: Format) -> io::Result<()> {
+    print_count(rt, f.width as u64)?;
+    print_signed(rt, integers::wide(f.unit))
 }
 
-fn print_word(w: RoundBitWord) {
-    print_signed(w.number.0);
-    print_count(w.number.1 as u64);
-    print_format(w.format);
+fn print_word(rt: &impl Print, w: RoundBitWord) -> io::Result<()> {
+    print_signed(rt, w.number.0)?;
+    print_count(rt, w.number.1 as u64)?;
+    print_format(rt, w.format)
 }
 
-fn print_outcome(name: &[u8], o: Outcome) {
-    print_text(name);
-    print_count(words::number_of(o) as u64);
+fn print_outcome(rt: &impl Print, name: &[u8], o: Outcome) -> io::Result<()> {
+    print_text(rt, name)?;
+    print_count(rt, words::number_of(o) as u64)
 }
 
-fn print_round_bit(name: &[u8], o: Outcome, w: RoundBitWord) {
-    print_outcome(name, o);
-    print_word(w);
-    print_text(b"\n");
+fn print_round_bit(rt: &impl Print, name: &[u8], o: Outcome, w: RoundBitWord) -> io::Result<()> {
+    print_outcome(rt, name, o)?;
+    print_word(rt, w)?;
+    print_text(rt, b"\n")
 }
 
-fn print_round_bit_answer(name: &[u8], a: RoundBitAnswer) {
+fn print_round_bit_answer(rt: &impl Print, name: &[u8], a: RoundBitAnswer) -> io::Result<()> {
     let o = a.outcome;
-    print_round_bit(name, o, a.word);
+    print_round_bit(rt, name, o, a.word)
 }
 
 // A half-unit word has no round bit; the line has a 0 in its place.
-fn print_half_unit_answer(name: &[u8], a: HalfUnitAnswer) {
+fn print_half_unit_answer(rt: &impl Print, name: &[u8], a: HalfUnitAnswer) -> io::Result<()> {
     let o = a.outcome;
     let w = a.word;
-    print_outcome(name, o);
-    print_signed(w.number.0);
-    print_count(0);
-    print_format(w.format);
-    print_text(b"\n");
+    print_outcome(rt, name, o)?;
+    print_signed(rt, w.number.0)?;
+    print_count(rt, 0)?;
+    print_format(rt, w.format)?;
+    print_text(rt, b"\n")
 }
 
 fn round_bit(width: u32, a: i64, r: u8) -> RoundBitWord {
@@ -100,145 +100,165 @@ fn half_unit(width: u32, w: i64) -> HalfUnitWord {
     }
 }
 
-fn sums() {
+fn sums(rt: &impl Print) -> io::Result<()> {
     print_round_bit_answer(
+        rt,
         b"P1",
         round_bit::sum(round_bit(5, 3, 1), round_bit(5, 4, 1)),
-    );
+    )?;
     print_round_bit_answer(
+        rt,
         b"P2",
         round_bit::sum(round_bit(5, 15, 0), round_bit(5, 0, 1)),
-    );
+    )?;
     print_round_bit_answer(
+        rt,
         b"P3",
         round_bit::sum(round_bit(5, 15, 0), round_bit(5, 1, 0)),
-    );
+    )?;
     print_round_bit_answer(
+        rt,
         b"P4",
         round_bit::sum(round_bit(5, -16, 0), round_bit(5, -1, 1)),
-    );
+    )?;
     print_round_bit_answer(
+        rt,
         b"P5",
         round_bit::difference(round_bit(5, 5, 0), round_bit(5, 5, 0)),
-    );
+    )
 }
 
-fn print_cut(name: &[u8], w: RoundBitWord, d: u64) {
+fn print_cut(rt: &impl Print, name: &[u8], w: RoundBitWord, d: u64) -> io::Result<()> {
     let a = round_bit::cut(w, d);
     let o = a.outcome;
-    print_round_bit(name, o, a.word);
+    print_round_bit(rt, name, o, a.word)
 }
 
-fn print_even_cut(name: &[u8], w: RoundBitWord, d: u64) {
+fn print_even_cut(rt: &impl Print, name: &[u8], w: RoundBitWord, d: u64) -> io::Result<()> {
     let a = round_bit::even_cut(w, d);
     let o = a.outcome;
-    print_round_bit(name, o, a.word);
+    print_round_bit(rt, name, o, a.word)
 }
 
-fn print_digit_text(name: &[u8], w: RoundBitWord) {
+fn print_digit_text(rt: &impl Print, name: &[u8], w: RoundBitWord) -> io::Result<()> {
     let mut text = [b'?'; 12];
     let a = digit_text::write(w, &mut text);
     let o = a.outcome;
-    print_outcome(name, o);
-    print_count(a.count as u64);
-    print_text(b" ");
-    print_text(&text);
-    print_text(b"\n");
+    print_outcome(rt, name, o)?;
+    print_count(rt, a.count as u64)?;
+    print_text(rt, b" ")?;
+    print_text(rt, &text)?;
+    print_text(rt, b"\n")
 }
 
-fn cuts() {
-    print_cut(b"P6 cut", round_bit(11, -718, 0), 2);
-    print_round_bit_answer(b"P6 rest", round_bit::rest(round_bit(11, -718, 0), 2));
-    print_digit_text(b"P6 text", round_bit(11, -718, 0));
-    print_cut(b"P7 by 1", round_bit(3, 0, 0), 1);
-    print_cut(b"P7 by 2", round_bit(3, 0, 0), 2);
-    print_round_bit_answer(b"P8", round_bit::widen(round_bit(4, 5, 1), 2));
+fn cuts(rt: &impl Print) -> io::Result<()> {
+    print_cut(rt, b"P6 cut", round_bit(11, -718, 0), 2)?;
+    print_round_bit_answer(rt, b"P6 rest", round_bit::rest(round_bit(11, -718, 0), 2))?;
+    print_digit_text(rt, b"P6 text", round_bit(11, -718, 0))?;
+    print_cut(rt, b"P7 by 1", round_bit(3, 0, 0), 1)?;
+    print_cut(rt, b"P7 by 2", round_bit(3, 0, 0), 2)?;
+    print_round_bit_answer(rt, b"P8", round_bit::widen(round_bit(4, 5, 1), 2))
 }
 
-fn products() {
+fn products(rt: &impl Print) -> io::Result<()> {
     print_round_bit_answer(
+        rt,
         b"P9",
         round_bit::product(round_bit(5, 11, 1), round_bit(5, 9, 1)),
-    );
+    )?;
     print_round_bit_answer(
+        rt,
         b"P9",
         round_bit::product(round_bit(5, -12, 0), round_bit(5, 9, 1)),
-    );
+    )?;
     print_round_bit_answer(
+        rt,
         b"P9",
         round_bit::product(round_bit(5, -1, 1), round_bit(5, 9, 1)),
-    );
+    )
 }
 
-fn half_units() {
-    print_half_unit_answer(b"P10 up", half_unit::from_plain_up(plain(5, 6), 1));
-    print_half_unit_answer(b"P10 even", half_unit::from_plain_even(plain(5, 6), 1));
-    print_half_unit_answer(b"P10 up", half_unit::from_plain_up(plain(5, 7), 1));
-    print_half_unit_answer(b"P10 even", half_unit::from_plain_even(plain(5, 7), 1));
+fn half_units(rt: &impl Print) -> io::Result<()> {
+    print_half_unit_answer(rt, b"P10 up", half_unit::from_plain_up(plain(5, 6), 1))?;
+    print_half_unit_answer(rt, b"P10 even", half_unit::from_plain_even(plain(5, 6), 1))?;
+    print_half_unit_answer(rt, b"P10 up", half_unit::from_plain_up(plain(5, 7), 1))?;
+    print_half_unit_answer(rt, b"P10 even", half_unit::from_plain_even(plain(5, 7), 1))?;
     print_half_unit_answer(
+        rt,
         b"P11 up",
         half_unit::sum_up(half_unit(5, 5), half_unit(5, 3)),
-    );
+    )?;
     print_half_unit_answer(
+        rt,
         b"P11 even",
         half_unit::sum_even(half_unit(5, 5), half_unit(5, 3)),
-    );
-    print_half_unit_answer(b"P12", half_unit::product(half_unit(5, 5), half_unit(5, 2)));
-    print_even_cut(b"P13", round_bit(5, 6, 0), 2);
-    print_even_cut(b"P13", round_bit(5, 2, 0), 2);
+    )?;
+    print_half_unit_answer(
+        rt,
+        b"P12",
+        half_unit::product(half_unit(5, 5), half_unit(5, 2)),
+    )?;
+    print_even_cut(rt, b"P13", round_bit(5, 6, 0), 2)?;
+    print_even_cut(rt, b"P13", round_bit(5, 2, 0), 2)
 }
 
-fn print_kept(s: RunningSum) {
-    print_text(b" kept");
-    print_word(s.kept);
-    print_text(b"\n");
+fn print_kept(rt: &impl Print, s: RunningSum) -> io::Result<()> {
+    print_text(rt, b" kept")?;
+    print_word(rt, s.kept)?;
+    print_text(rt, b"\n")
 }
 
 // A put of (a,r), and then a hand-out.
-fn put_and_hand_out(s: RunningSum, a: i64, r: u8) -> RunningSum {
+fn put_and_hand_out(rt: &impl Print, s: RunningSum, a: i64, r: u8) -> io::Result<RunningSum> {
     let p = s.put(round_bit(8, a, r));
     let po = p.outcome;
     let ps = p.sum;
-    print_outcome(b"P14 put", po);
-    print_kept(ps);
+    print_outcome(rt, b"P14 put", po)?;
+    print_kept(rt, ps)?;
     let h = ps.hand_out();
     let ho = h.outcome;
     let hs = h.sum;
-    print_outcome(b"P14 hand out", ho);
-    print_word(h.word);
-    print_kept(hs);
-    hs
+    print_outcome(rt, b"P14 hand out", ho)?;
+    print_word(rt, h.word)?;
+    print_kept(rt, hs)?;
+    Ok(hs)
 }
 
-fn running_sum() {
+fn running_sum(rt: &impl Print) -> io::Result<()> {
     let a = running_sum::open(8, 0, 2);
     let o = a.outcome;
     let s = a.sum;
-    print_outcome(b"P14 open", o);
-    print_kept(s);
-    put_and_hand_out(put_and_hand_out(put_and_hand_out(s, 3, 0), 3, 0), 0, 1);
+    print_outcome(rt, b"P14 open", o)?;
+    print_kept(rt, s)?;
+    let s = put_and_hand_out(rt, s, 3, 0)?;
+    let s = put_and_hand_out(rt, s, 3, 0)?;
+    put_and_hand_out(rt, s, 0, 1)?;
+    Ok(())
 }
 
-fn widths() {
+fn widths(rt: &impl Print) -> io::Result<()> {
     print_round_bit_answer(
+        rt,
         b"widths 32 and 32, round-bit product",
         round_bit::product(round_bit(32, 1, 0), round_bit(32, 1, 0)),
-    );
+    )?;
     print_half_unit_answer(
+        rt,
         b"widths 32 and 32, half-unit product",
         half_unit::product(half_unit(32, 1), half_unit(32, 1)),
-    );
+    )?;
     print_half_unit_answer(
+        rt,
         b"widths 32 and 31, half-unit product",
         half_unit::product(half_unit(32, 1), half_unit(31, 1)),
-    );
+    )?;
     let a = round_bit::to_plain(round_bit(5, 15, 1));
     let o = a.outcome;
     let w = a.word;
-    print_outcome(b"(15,1) to plain", o);
-    print_signed(w.number.0);
-    print_format(w.format);
-    print_text(b"\n");
+    print_outcome(rt, b"(15,1) to plain", o)?;
+    print_signed(rt, w.number.0)?;
+    print_format(rt, w.format)?;
+    print_text(rt, b"\n")
 }
 
 fn store(file: &mut [u8], i: usize, b: u8) {
@@ -259,73 +279,73 @@ fn put_front(file: &mut [u8], width: u8, unit: u8, low: u8, high: u8) {
     store(file, 9, high);
 }
 
-fn print_file(name: &[u8], file: &[u8]) {
+fn print_file(rt: &impl Print, name: &[u8], file: &[u8]) -> io::Result<()> {
     let mut numbers = [0i64; 8001];
     let mut rounds = [0u8; 8001];
     let a = block_file::read(file, &mut numbers, &mut rounds);
     let o = a.outcome;
     let h = a.head;
-    print_outcome(name, o);
-    print_count(h.kind as u64);
-    print_format(h.format);
-    print_count(h.count as u64);
-    print_text(b"\n");
+    print_outcome(rt, name, o)?;
+    print_count(rt, h.kind as u64)?;
+    print_format(rt, h.format)?;
+    print_count(rt, h.count as u64)?;
+    print_text(rt, b"\n")
 }
 
 // Of 8,000 and 8,001 records: 40 1F and 41 1F, lowest byte first.
-fn large_files() {
+fn large_files(rt: &impl Print) -> io::Result<()> {
     let mut most = [0u8; 40012];
     put_front(&mut most, 5, 0, 64, 31);
-    print_file(b"count 8,000", &most);
+    print_file(rt, b"count 8,000", &most)?;
     let mut more = [0u8; 40017];
     put_front(&mut more, 5, 0, 65, 31);
-    print_file(b"count 8,001", &more);
+    print_file(rt, b"count 8,001", &more)
 }
 
-fn print_small_file(name: &[u8], width: u8, unit: u8) {
+fn print_small_file(rt: &impl Print, name: &[u8], width: u8, unit: u8) -> io::Result<()> {
     let mut file = [0u8; 17];
     put_front(&mut file, width, unit, 1, 0);
-    print_file(name, &file);
+    print_file(rt, name, &file)
 }
 
-fn files() {
-    large_files();
-    print_small_file(b"width 32", 32, 0);
-    print_small_file(b"width 33", 33, 0);
-    print_small_file(b"unit byte 80", 5, 128);
+fn files(rt: &impl Print) -> io::Result<()> {
+    large_files(rt)?;
+    print_small_file(rt, b"width 32", 32, 0)?;
+    print_small_file(rt, b"width 33", 33, 0)?;
+    print_small_file(rt, b"unit byte 80", 5, 128)
 }
 
-fn print_reading(name: &[u8], text: &[u8]) {
+fn print_reading(rt: &impl Print, name: &[u8], text: &[u8]) -> io::Result<()> {
     let a = digit_text::read(text, 0);
     let o = a.outcome;
-    print_outcome(name, o);
-    print_word(a.word);
-    print_count(a.place as u64);
-    print_text(b"\n");
+    print_outcome(rt, name, o)?;
+    print_word(rt, a.word)?;
+    print_count(rt, a.place as u64)?;
+    print_text(rt, b"\n")
 }
 
-fn requested() {
-    print_even_cut(b"Ask 2", round_bit(5, 1, 1), 1);
-    print_even_cut(b"Ask 2", round_bit(5, 0, 1), 1);
-    print_even_cut(b"Ask 2", round_bit(5, 2, 1), 1);
-    print_reading(b"Ask 3", b"+ +");
-    print_reading(b"Ask 3", b"++-");
-    print_reading(b"Ask 3", b"+0+");
-    print_reading(b"Ask 3", b"+0-0-+?");
-    print_reading(b"Ask 3", b"+-");
+fn requested(rt: &impl Print) -> io::Result<()> {
+    print_even_cut(rt, b"Ask 2", round_bit(5, 1, 1), 1)?;
+    print_even_cut(rt, b"Ask 2", round_bit(5, 0, 1), 1)?;
+    print_even_cut(rt, b"Ask 2", round_bit(5, 2, 1), 1)?;
+    print_reading(rt, b"Ask 3", b"+ +")?;
+    print_reading(rt, b"Ask 3", b"++-")?;
+    print_reading(rt, b"Ask 3", b"+0+")?;
+    print_reading(rt, b"Ask 3", b"+0-0-+?")?;
+    print_reading(rt, b"Ask 3", b"+-")?;
     let many = [b'x'; 64];
-    print_reading(b"Ask 3", &many);
+    print_reading(rt, b"Ask 3", &many)
 }
 
-fn main() {
-    sums();
-    cuts();
-    products();
-    half_units();
-    running_sum();
-    widths();
-    files();
-    print_reading(b"+0+", b"+0+");
-    print_reading(b"+-", b"+-");
-    requested();
+fn main(rt: HostRuntime) -> io::Result<()> {
+    sums(&rt)?;
+    cuts(&rt)?;
+    products(&rt)?;
+    half_units(&rt)?;
+    running_sum(&rt)?;
+    widths(&rt)?;
+    files(&rt)?;
+    print_reading(&rt, b"+0+", b"+0+")?;
+    print_reading(&rt, b"+-", b"+-")?;
+    requested(&rt)
 }
