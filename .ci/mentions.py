@@ -5,7 +5,8 @@ from pathlib import Path
 
 SIGNATURE = re.compile(r"(?:(?:abbrev|unfoldable|pub) )*([^\s:(){}=]+(?: [^\s:(){}=]+)*) :\s")
 BLOCK = re.compile(r"(?:pub )?(data|record) (\S+)")
-BRINGS = re.compile(r"(?:pub )?use Rattle·(\w+)")
+BRINGS = re.compile(r"(?:pub )?use Rattle\.(\w+)\.(?:specs|proofs)\.")
+OF_A_FUNCTION = ("Answers.antt", "Invariants.antt", "Proof.antt")  # the proofs that tie a function to its meaning
 # Names that a text binds itself, and so mentions nothing by: of a parameter, of a field or a `let`, of a `λ`.
 BOUND = re.compile(r"[({]([^(){}:]+) : |([^\s(){};]+) =|λ ([^.(]+)\.")
 
@@ -14,14 +15,16 @@ Declared = namedtuple("Declared", "statement defines clauses")
 
 
 def plain(name):
-    """One form for names that stand for each other: `cut_word` and `cutWord`, `cut` and `cutOf`."""
-    return re.sub(r"[-_']", "", re.sub(r"Of$", "", name)).lower()
+    """One form for names that stand for each other: `cut`, `cut_of` and the lemma `cut_lem`."""
+    return re.sub(r"[-_']", "", re.sub(r"_(?:of|lem)$", "", name)).lower()
 
 
 def words(text):
-    """What an antt text names. A field, as in `w .format`, is no name."""
+    """What an antt text names. A field, as in `w.format` and `(f w).format`, is no name; but what stands before it is, and
+    what a module has, as `write.Post`."""
     bound = {name for m in BOUND.finditer(text) for group in m.groups("") for name in group.split()}
-    return {word for word in re.findall(r"[^\s(){};,]+", text) if not word.startswith(".")} - bound
+    found = {word for word in re.findall(r"[^\s(){};,]+", text) if word.split(".")[0] not in bound | {""}}
+    return found | {word.split(".")[0] for word in found}
 
 
 def lines_of(path):
@@ -41,15 +44,17 @@ def lines_of(path):
 
 
 class File:
-    """An antt file: what it declares, and what it brings from the crates."""
+    """An antt file: what it declares, and what it brings from the crates; of that, which names are modules."""
     def __init__(self, path):
         self.path, self.crate = path, path.parts[1]
-        self.declared, self.constructors, self.aliases, self.brings = {}, set(), {}, []
+        self.declared, self.constructors, self.aliases, self.brings, self.modules = {}, set(), {}, [], set()
         now = None
         for section, text in lines_of(path):
             if m := BRINGS.match(text):
-                self.aliases |= {new: old for old, new in re.findall(r"([^\s{},]+) as ([^\s{},]+)", text)}
-                self.brings.append((m[1], set(re.split(r"[.{},\s]+", text))))
+                brought = text[m.end() :]
+                self.aliases |= {new: old for old, new in re.findall(r"([^\s{},]+) as ([^\s{},]+)", brought)}
+                self.brings.append((m[1], set(re.split(r"[.{},\s]+", brought))))
+                self.modules |= set() if "{" in brought else {brought.split()[-1].split(".")[-1]}
             elif m := BLOCK.match(text):
                 parts = re.findall(r"^ +(?:pub )?([^:(){}]+) : (.*)", text, re.M)
                 self.constructors |= {name for names, _ in parts for name in names.split() if m[1] == "data"}
@@ -79,7 +84,7 @@ class File:
         first, *more = word.split(".")
         if first in self.declared or first in self.constructors:
             return {(self.crate, plain(first))}
-        names = [first, *more, *self.aliases.get(first, "").split(".")]
+        names = [first, *(more if first in self.modules else []), *self.aliases.get(first, "").split(".")]
         return {(crate, plain(name)) for crate, brought in self.brings if first in brought for name in names}
 
 
@@ -107,7 +112,8 @@ def of_program(path):
 class Sources:
     def __init__(self):
         # The proofs that tie a function to its meaning are cited nowhere.
-        paths = [path for path in sorted(Path("crates").glob("*/*/**/*.antt")) if path.name != "Proof.antt"]
+        paths = sorted([*Path("crates").glob("*/specs/**/*.antt"), *Path("crates").glob("*/proofs/**/*.antt")])
+        paths = [path for path in paths if path.name not in OF_A_FUNCTION]
         self.files = [File(path) for path in paths]
         self.homes = defaultdict(set)  # of each definition and function, the crates that have it
         for file in (file for file in self.files if file.path.parts[2] == "specs"):
@@ -130,6 +136,10 @@ class Sources:
             for crate, named in file.brings:
                 if far.crate == crate and last in far.declared and {first, far.path.stem} <= named:
                     yield far, last
+
+    def has_law(self, name, crates):
+        """Is it declared in proofs/ of one of these crates?"""
+        return any(name in file.declared for file in self.files if file.path.parts[2] == "proofs" and file.crate in crates)
 
     def mentioned(self, kind, name, crates, place):
         """What those mention that have the name: in these crates, or else anywhere."""
