@@ -10,16 +10,23 @@ from worlds import NOBODY, PATIENCE, run
 
 RT = """#!/bin/sh
 [ "$1" != doc ] || exec "$REAL_RT" doc
-echo "$*" >>"$ASKED"
-echo "the prover's own words"
+crate=${PWD##*/}
+echo "$* $crate" >>"$ASKED"
+echo "the prover's own words" >&2
 sleep "${SLOW:-0}"
-[ "$2" != "${WRONG:-}" ] || exit 1
-mkdir -p target/stamp target/bin target/log
-true >"target/log/$2.out" || exit 0 # as rt does, which then repeats what it said last
-stamp=$(cat "crates/$2/src/"*)
-[ "$(cat "target/stamp/$2" 2>&1)" != "$stamp" ] || exit 0
-printf '%s\\n' "$stamp" >"target/stamp/$2"
-[ "$2" != listing ] || cp "$PROGRAM" target/bin/listing
+[ "$crate" != "${WRONG:-}" ] || exit 1
+mkdir -p out/rlib || exit 2
+made() {
+    cat src/*
+    [ "$1" = lib ] || sha256sum <out/listing # as rt does, which sees whether the program is the one that it made
+}
+stamp=out/rlib/stamp
+[ "$1" = lib ] || stamp=out/listing.stamp
+[ "$(cat $stamp 2>&1)" = "$(made "$1" 2>&1)" ] || {
+    [ "$1" = lib ] || cp "$PROGRAM" out/listing
+    made "$1" >$stamp
+}
+[ "$1" = lib ] || echo "the program's own words"
 """
 
 
@@ -29,7 +36,8 @@ def lines_of(file):
 
 def below(root, name="listing"):
     """The crates that a crate stands on, lowest first, and itself."""
-    lines = dict(line.split(":") for line in (root / "crates.txt").read_text().splitlines() if ":" in line)
+    lines = [line.partition("#")[0].partition(":") for line in (root / "crates.txt").read_text().splitlines()]
+    lines = {name.split()[0]: needed for name, colon, needed in lines if colon}
     found = []
     for needed in lines[name].split():
         if needed in lines:
@@ -43,16 +51,17 @@ class Tree:
     def __init__(self, place, root, name):
         self.path, self.root, self.asked = place / name, root, place / f"{name}.asked"
         self.crates = below(root)
-        self.everything = [f"check {crate}" for crate in self.crates]
+        self.everything = [f"{'run' if crate == 'listing' else 'lib'} {crate}" for crate in self.crates]
+        self.out = self.path / "crates/listing/out"
         self.path.mkdir()
         for part in ("list", "crates.txt"):
             shutil.copy2(root / part, self.path / part)
         for crate in self.crates:
-            shutil.copytree(root / "crates" / crate, self.path / "crates" / crate)
+            shutil.copytree(root / "crates" / crate, self.path / "crates" / crate, ignore=shutil.ignore_patterns("out"))
         self.env = {
             "PATH": f"{place / 'bin'}:{os.environ['PATH']}",
             "REAL_RT": shutil.which("rt"),
-            "PROGRAM": str(root / "target/bin/listing"),
+            "PROGRAM": str(root / "crates/listing/out/listing"),
             "ASKED": str(self.asked),
         }
 
@@ -93,7 +102,7 @@ def try_first(tree, good, text, hold):
     hold("the first listing proves all, a line for each crate", ended == (text, tree.lines(), 0), ended)
     asked = tree.questions()
     hold("the crates are proved in order", asked == tree.everything, asked)
-    kept = lines_of(tree.path / "target/list.log")
+    kept = lines_of(tree.out / "list.log")
     hold("the prover's own words are in the log", kept == ["the prover's own words"] * len(tree.crates), kept)
     ended = tree.list(good)
     hold("the next listing proves nothing and says nothing", ended == (text, "", 0) and not tree.questions(), ended)
@@ -101,7 +110,7 @@ def try_first(tree, good, text, hold):
     if platform.machine() == "x86_64":
         hold("nor does it need the toolchain", ended == (text, "", 0), ended)
     else:
-        # The emulator is the toolchain's.
+        # The emulator runs it over the toolchain's libraries.
         said = ended[0] == b"" and ended[1].startswith("list: there is no emulator: ") and ended[2] == 2
         hold("without the toolchain there is no emulator, which it says", said, ended)
     copy = shutil.copytree(tree.path, tree.path.with_name("copied tree"), ignore=shutil.ignore_patterns("secret*"))
@@ -111,7 +120,7 @@ def try_first(tree, good, text, hold):
 
 def try_stale(tree, good, text, hold):
     """A program that was not proved from the sources as they are is not run."""
-    program, source = tree.path / "target/bin/listing", tree.path / "crates/words/src/lib.rt"
+    program, source = tree.out / "listing", tree.path / "crates/words/src/lib.rt"
 
     def replace():
         program.write_text("#!/bin/sh\necho listed >&2\n")
@@ -135,11 +144,12 @@ def try_stale(tree, good, text, hold):
 
 def try_failing(tree, good, hold):
     ended = tree.list(good, WRONG="words")
-    named = f"list: words is not proved: {tree.path}/target/list.log has what the prover said\n"
+    named = f"list: words is not proved: {tree.out}/list.log has what the prover said\n"
     lines = "".join(tree.lines().splitlines(True)[:2])
     hold("a crate that is not proved: the log is named", ended == (b"", lines + named, 2), ended)
     hold("and no other is tried", tree.questions() == tree.everything[:2], "")
-    shutil.rmtree(tree.path / "target", ignore_errors=True)
+    for out in tree.path.glob("crates/*/out"):
+        shutil.rmtree(out)
     ended = tree.list(good, PATH=tree.path_without_rt())
     says = "list: the listing program has to be proved first, and rt, the Rattle toolchain, is not on the path\n"
     hold("no toolchain, and nothing built", ended == (b"", says, 2), ended)
@@ -148,10 +158,10 @@ def try_failing(tree, good, hold):
 def try_foreign(tree, good, text, hold):
     """A tree that this user cannot write, not built, built by ./list, built by rt alone, and stale."""
     says = "list: the listing program has to be proved first, and {} cannot be written\n"
-    target = tree.path / "target"
+    lowest = tree.path / "crates" / tree.crates[0]
     tree.lock()
     ended = tree.list(good, user=NOBODY)
-    hold("another's tree, not built", ended == (b"", says.format(tree.path), 2), ended)
+    hold("another's tree, not built", ended == (b"", says.format(lowest), 2), ended)
     tree.unlock()
     tree.list(good)
     for what in ("built by ./list", "built by rt"):
@@ -160,11 +170,11 @@ def try_foreign(tree, good, text, hold):
         ended = tree.list(good, user=NOBODY)
         hold(f"another's tree, {what}", ended == (text, "", 0) and not tree.questions(), ended)
         tree.unlock()
-        (target / "listing.proved").unlink(missing_ok=True)
-    os.utime(target / "bin/listing", (1e9, 1e9))
+        (tree.out / "listing.proved").unlink(missing_ok=True)
+    os.utime(tree.out / "listing", (1e9, 1e9))
     tree.lock()
     ended = tree.list(good, user=NOBODY)
-    hold("another's tree, stale", ended == (b"", says.format(target), 2), ended)
+    hold("another's tree, stale", ended == (b"", says.format(lowest / "out"), 2), ended)
     tree.unlock()
 
 
@@ -180,7 +190,7 @@ def try_at_once(tree, good, text, hold):
 def try_copy(place, root, emulator, good, text, hold):
     """The program alone, in another folder, for another user."""
     copy = place / "copied program"
-    shutil.copy(root / "target/bin/listing", copy)
+    shutil.copy(root / "crates/listing/out/listing", copy)
     ended = run([*NOBODY, *map(str, emulator), str(copy)], good, cwd="/")
     hold("a copy of the program", ended == (text, "", 0), ended)
 
