@@ -1,5 +1,5 @@
 /* Frostuldi: the proved arithmetic of vibration recorders, as C calls it. Link with libfrostuldi.a
- * (`rt staticlib frostuldi` writes target/staticlib/libfrostuldi.a, for x86-64 Linux).
+ * (`rt lib --cpu x86-64` in crates/frostuldi writes out/libfrostuldi.a there, for x86-64 Linux).
  *
  * Every function takes whatever numbers and bytes it is handed, ends, and does the work or refuses with a number
  * of the table of refusals. `refusal` is 0 for done. A refusal answers the blank word (number 0, round bit 0, width 2,
