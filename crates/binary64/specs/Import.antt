@@ -17,7 +17,8 @@ use Rattle.words.specs.declared.RoundBitAnswer.{RoundBitAnswer}
 use Rattle.words.specs.declared.HalfUnitAnswer.{HalfUnitAnswer}
 use Rattle.words.specs.Refusals.{refuse, ◌or_else◌, format_check}
 use Rattle.words.specs.Plain.{plain_word, plain_fitted, ◌and_then◌ as ◌and_then_plain◌}
-use Rattle.words.specs.RoundBit.{round_bit_word, round_bit_fitted, ◌and_then◌ as ◌and_then_round_bit◌}
+use Rattle.words.specs.RoundBit.{round_bit_word, round_bit_fitted}
+use Rattle.words.specs.RoundBit.{◌and_then◌ as ◌and_then_round_bit◌}
 use Rattle.words.specs.HalfUnit.{half_unit_word, half_unit_fitted, ◌and_then◌}
 
 -- what the bits of a sample stand for

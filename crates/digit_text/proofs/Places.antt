@@ -105,7 +105,8 @@ free_fault t e = let p = or-false (found (strange_place t) t) (found (repeat_pla
 abbrev pub fault_at : Cause → List ℕ → ℕ → Finding
 fault_at c t k = record { outcome = refuse_for c (found k t); place = cond (found k t) k 0 }
 
-pub byte_finding : (t : List ℕ) (c : Cause) → (fault_at Byte t (strange_place t)).outcome ≡ Refused c → fault_at Byte t (strange_place t) ≡ finding t (fault_check t)
+pub byte_finding : (t : List ℕ) (c : Cause) → (fault_at Byte t (strange_place t)).outcome ≡ Refused c →
+    fault_at Byte t (strange_place t) ≡ finding t (fault_check t)
 unfolding fault_check place_of
 byte_finding t c = go (found (strange_place t) t) refl
   where

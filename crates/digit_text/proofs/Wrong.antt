@@ -14,7 +14,8 @@ use Rattle.words.specs.Refusals.{number_of, format_check, word_check, lent_after
 use Rattle.words.specs.RoundBit.{round_bit_check}
 use Rattle.words.specs.Flat.{Flat, flat, laid_flat, same_flat, round_bit_at as at, done, refused}
 use Rattle.words.specs.declared.RoundBitWord.{RoundBitWord}
-use Rattle.digit_text.specs.Digits.{plus, none, minus, signed_digit, byte_of, digit_of, byte_at, text, text_value, sign_before, write_check, write_of, buffer_of}
+use Rattle.digit_text.specs.Digits.{plus, none, minus, signed_digit, byte_of, digit_of, byte_at, text, text_value, sign_before, write_check, write_of}
+use Rattle.digit_text.specs.Digits.{buffer_of}
 use Rattle.digit_text.specs.Reading.{strange_at, repeats_at, strange_place, repeat_place, fault_check, read_check, place_of, read_round, read_word, read_of}
 
 -- of a writing: the number of its outcome, the count and the whole buffer; of a reading: outcome, word and place
@@ -95,6 +96,7 @@ abbrev wrong : List Row
 wrong = stand_ins ++ mistakes ++ misplaced
 
 all_wrong : all (length wrong) (λ k. differs (get_or wrong k (read [] (pos 0) (refused 1) 0))) ≡ true
-unfolding first_bad fits_width floor_by lowest digit format_check word_check round_bit_check signed_digit byte_of digit_of byte_at text_value sign_before write_answer
+unfolding first_bad fits_width floor_by lowest digit format_check word_check round_bit_check signed_digit byte_of digit_of byte_at text_value sign_before
+    write_answer
     lent_after text write_check write_of buffer_of strange_at repeats_at strange_place repeat_place fault_check read_check place_of read_round read_word read_of
 all_wrong = refl

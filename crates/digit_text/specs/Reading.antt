@@ -70,7 +70,8 @@ read_round t = cond (eqb (sign_before t (length t)) plus) 1 0
 
 -- "the answer is the word whose digit text it is": its value is a + r
 unfoldable pub read_word : List ℕ → ℤ → RoundBitWord
-read_word t e = round_bit_word (text_value t -ℤ pos (read_round t)) (read_round t) (format (length t) e)
+read_word t e =
+    round_bit_word (text_value t -ℤ pos (read_round t)) (read_round t) (format (length t) e)
 
 -- the answer of a reading has what any answer has, and a place: done gives 0
 abbrev pub read_answer : RoundBitAnswer → ReadAnswer

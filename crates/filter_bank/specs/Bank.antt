@@ -100,7 +100,8 @@ unit_check taps window =
 -- "17 for a channel over 3, before all others"
 abbrev pub channel_check : List RoundBitWord → List RoundBitWord → ℕ → Outcome
 channel_check taps window channel =
-    refuse 17 (ltb most_channel channel) or_else row_check taps window or_else unit_check taps window
+    refuse 17 (ltb most_channel channel) or_else row_check taps window
+    or_else unit_check taps window
 
 -- the answer of an output has what any answer has
 abbrev pub output_answer : Outcome → RoundBitWord → OutputAnswer

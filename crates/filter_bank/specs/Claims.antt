@@ -53,7 +53,8 @@ AllDone (a ∷ more) = (a.outcome ≡ Done) × AllDone more
 abbrev pub exact_sum : List RoundBitWord → List RoundBitWord → ℤ
 exact_sum [] window = pos 0
 exact_sum (t ∷ taps) [] = pos 0
-exact_sum (t ∷ taps) (s ∷ window) = (round_bit_value t *ℤ round_bit_value s) +ℤ exact_sum taps window
+exact_sum (t ∷ taps) (s ∷ window) =
+    (round_bit_value t *ℤ round_bit_value s) +ℤ exact_sum taps window
 
 -- half an output unit, in the same quarters
 abbrev pub half_output_unit : ℕ
@@ -84,7 +85,8 @@ pub record Claims (taps window : List RoundBitWord) (channel : ℕ) : Type 0 whe
   -- and it passes its own check: its number fits its width
   pub fits : round_bit_check (output_word taps window) ≡ Done
   -- "cut by 11 to width 20", and the unit of the products is 2 ^ 11 times finer
-  pub form : (output_word taps window).format ≡ format 20 (products_unit taps window +ℤ pos cut_depth)
+  pub form : (output_word taps window).format ≡
+      format 20 (products_unit taps window +ℤ pos cut_depth)
   -- the value is within half an output unit of the exact sum
   pub near : nat_abs (error_of taps window) ≤ half_output_unit
   -- "added from tap 0 up", or from tap 7 down: all are done, and the last answers the same word

@@ -40,7 +40,8 @@ FrostMoves {F} {A} Meets word w made last = Chain (λ (w : F) (a : FrostMade A) 
 -- ---- where a move of the C functions is one of the Rattle functions, a chain is a chain
 module _ {F A W : Type 0} (word_in : F → W) (refusal : A → ℕ) (word : A → F) (Flat : F → Move → A → Type 0) (Meets : W → Move → Outcome → W → Type 0)
     (meets-in : (w : F) (m : Move) (a : A) → Flat w m a → Meets (word_in w) m (outcome_in (refusal a)) (word_in (word a))) where
-  moves_in : {w last : F} {made : List (FrostMade A)} → FrostMoves Flat word w made last → MoveLinks Meets (word_in w) (map (made_in refusal) made) (word_in last)
+  moves_in : {w last : F} {made : List (FrostMade A)} → FrostMoves Flat word w made last →
+      MoveLinks Meets (word_in w) (map (made_in refusal) made) (word_in last)
   moves_in chain = chain_map word_in (made_in refusal) (λ s t a m. rw m.1 (meets-in s a.move a.answer m.0)) chain
 
 -- ---- round-bit words: on this word the move may answer this, by the contract of its function, frost_round_bit_cut or frost_round_bit_sign_change
@@ -62,10 +63,12 @@ round_bit_in_lem w sign_change a m = let p = round_bit_answer_back _ _ m in λ i
 
 pub round_bit_moves_claimed : (w last : FrostRoundBit) (made : List (FrostMade FrostRoundBitAnswer)) → round_bit_check (round_bit_in w) ≡ Done →
     FrostMoves FrostRoundBitMeets (λ a. a.word) w made last →
-    let calls = map (made_in (λ (a : FrostRoundBitAnswer). a.refusal)) made in RoundBitClaimed (round_bit_in w) (moves_of calls) (reached calls (round_bit_in last))
+    let calls =
+    map (made_in (λ (a : FrostRoundBitAnswer). a.refusal)) made in RoundBitClaimed (round_bit_in w) (moves_of calls) (reached calls (round_bit_in last))
 round_bit_moves_claimed w last made g chain =
     round-bit-linked (round_bit_in w) (round_bit_in last) _ g
-    (moves_in round_bit_in (λ (a : FrostRoundBitAnswer). a.refusal) (λ (a : FrostRoundBitAnswer). a.word) FrostRoundBitMeets RoundBitMeets round_bit_in_lem chain)
+    (moves_in round_bit_in (λ (a : FrostRoundBitAnswer). a.refusal) (λ (a : FrostRoundBitAnswer). a.word) FrostRoundBitMeets RoundBitMeets round_bit_in_lem
+    chain)
 
 -- ---- half-unit words: on this word the move may answer this, by the contract of its function, frost_half_unit_cut or frost_half_unit_sign_change
 abbrev pub FrostHalfUnitMeets : FrostHalfUnit → Move → FrostHalfUnitAnswer → Type 0
@@ -86,7 +89,9 @@ half_unit_in_lem w sign_change a m = let p = half_unit_answer_back _ _ m in λ i
 
 pub half_unit_moves_claimed : (w last : FrostHalfUnit) (made : List (FrostMade FrostHalfUnitAnswer)) → half_unit_check (half_unit_in w) ≡ Done →
     FrostMoves FrostHalfUnitMeets (λ a. a.word) w made last →
-    let calls = map (made_in (λ (a : FrostHalfUnitAnswer). a.refusal)) made in HalfUnitClaimed (half_unit_in w) (moves_of calls) (reached calls (half_unit_in last))
+    let calls =
+    map (made_in (λ (a : FrostHalfUnitAnswer). a.refusal)) made in HalfUnitClaimed (half_unit_in w) (moves_of calls) (reached calls (half_unit_in last))
 half_unit_moves_claimed w last made g chain =
     half-unit-linked (half_unit_in w) (half_unit_in last) _ g
-    (moves_in half_unit_in (λ (a : FrostHalfUnitAnswer). a.refusal) (λ (a : FrostHalfUnitAnswer). a.word) FrostHalfUnitMeets HalfUnitMeets half_unit_in_lem chain)
+    (moves_in half_unit_in (λ (a : FrostHalfUnitAnswer). a.refusal) (λ (a : FrostHalfUnitAnswer). a.word) FrostHalfUnitMeets HalfUnitMeets half_unit_in_lem
+    chain)

@@ -10,7 +10,10 @@ use Rattle.half_unit.specs.Cuts.{sign_change_of, cut_of}
 -- what a move answers is what the operation answers
 abbrev pub moved : HalfUnitWord → Move → Moved HalfUnitWord
 moved w (cut d) = record { outcome = (cut_of w d).outcome; word = (cut_of w d).word }
-moved w sign_change = record { outcome = (sign_change_of w).outcome; word = (sign_change_of w).word }
+moved w sign_change = record {
+  outcome = (sign_change_of w).outcome;
+  word = (sign_change_of w).word;
+}
 
 abbrev pub ran : HalfUnitWord → List Move → Moved HalfUnitWord
 ran w moves = ran_by moved w moves
@@ -27,4 +30,5 @@ Claimed w moves end = ClaimedBy moved half_unit_value (λ w. w.format) Near w mo
 -- "any run of cuts and sign changes" on a word that 1, 2 and 3 do not refuse
 abbrev pub AnyRun : Type 0
 AnyRun =
-    (w : HalfUnitWord) (moves : List Move) → half_unit_check w ≡ Done → Claimed w moves (ran w moves)
+    (w : HalfUnitWord) (moves : List Move) → half_unit_check w ≡ Done →
+    Claimed w moves (ran w moves)

@@ -7,8 +7,7 @@ use mathlib.Core.Bool.{Bool, true, false, ◌||◌, or-false}
 use Prim.Native.Nat.{ℕ, zero, suc, ◌+◌, ◌*◌, ◌-◌, ◌/◌, ◌%◌, ◌^◌, ◌<◌, ◌≤◌}
 use native.Mathlib.Omega.{arith}
 use native.Mathlib.Nat.{mod-eq_of_lt, div-eq_of_lt, lt-div-mul-add, lt_of_lt_of_le, lt_of_le_of_lt}
-use lib.Dec.{T, eqb, ltb}
-use lib.Arith.{digits_mod}
+use lib.{Dec.{T, eqb, ltb}, Arith.{digits_mod}}
 use lib.Bits.{bit_and, and_mask}
 use lib.Pow.{pow_pos, pow-add, pow_mono, shl_lt}
 use lib.IntN.{ℤ, pos, negsuc, neg_ℤ, nat_abs, ◌+ℤ◌, ◌*ℤ◌}
@@ -100,7 +99,8 @@ floor_zero m p h = go (ltb m p) refl
     go true e = eq-eqb (m / p) 0 (div-eq_of_lt (ltb-true m p e))
     go false e = ne_eqb (m / p) 0 (λ z. omega (arith, ltb-false m p e, lt-div-mul-add {a = m} h, ap (λ (k : ℕ). k * p) z))
 
-pub fits_machine_test : (x : ℤ) (n : ℕ) → SFits w64 x → (eqb (of_z w64 (floor_by x (n - 1))) 0 || eqb (of_z w64 (floor_by x (n - 1))) (2 ^ 64 - 1)) ≡ fits_width x n
+pub fits_machine_test : (x : ℤ) (n : ℕ) → SFits w64 x →
+    (eqb (of_z w64 (floor_by x (n - 1))) 0 || eqb (of_z w64 (floor_by x (n - 1))) (2 ^ 64 - 1)) ≡ fits_width x n
 fits_machine_test x n f =
     only_sign (floor_by x (n - 1)) (floor_machine (n - 1) f)
     ∙ ap (λ (k : ℕ). eqb k 0) (floor_size x (n - 1))

@@ -11,7 +11,8 @@ use Rattle.listing.specs.declared.Ended.TheVariants.{Listed, Refused, NotRead, N
 abbrev pub read_of : List ℕ → List ℕ
 read_of input = take (longest_file + 1) input
 
--- a file's listing stands behind what the output had; a part of it, and not all, where not all was written; and nothing
+-- a file's listing stands behind what the output had; a part of it, and not all, where not all was
+-- written; and nothing
 -- where the file was not read
 abbrev pub LeavesListing : Ended → List ℕ → Option (List ℕ) → Option (List ℕ) → Type 0
 LeavesListing Listed file old new = (list_check file ≡ Done) × Appends old new (listing file)

@@ -63,7 +63,8 @@ abbrev pub cut_and_rest_answer : RoundBitAnswer → RoundBitAnswer → CutAndRes
 cut_and_rest_answer a b = record { outcome = a.outcome; word = a.word; rest = b.word }
 
 abbrev pub cut_and_rest_of : RoundBitWord → ℕ → CutAndRestAnswer
-cut_and_rest_of w d = cut_and_rest_answer (cut_check w d and_then round_bit_done (cut_word w d)) (rest_of w d)
+cut_and_rest_of w d =
+    cut_and_rest_answer (cut_check w d and_then round_bit_done (cut_word w d)) (rest_of w d)
 
 -- "where a + r lies exactly half a new unit above floor(a / 2^d) new units", for d = k + 1
 abbrev pub tied : ℕ → ℤ → ℕ → Bool

@@ -10,7 +10,10 @@ use Rattle.round_bit.specs.Cuts.{sign_change_of, cut_of, even_cut_of}
 -- what a move answers is what the operation answers
 abbrev pub moved : RoundBitWord → Move → Moved RoundBitWord
 moved w (cut d) = record { outcome = (cut_of w d).outcome; word = (cut_of w d).word }
-moved w sign_change = record { outcome = (sign_change_of w).outcome; word = (sign_change_of w).word }
+moved w sign_change = record {
+  outcome = (sign_change_of w).outcome;
+  word = (sign_change_of w).word;
+}
 
 abbrev pub ran : RoundBitWord → List Move → Moved RoundBitWord
 ran w moves = ran_by moved w moves
@@ -26,7 +29,8 @@ Claimed w moves end = ClaimedBy moved round_bit_value (λ w. w.format) Near w mo
 -- "any run of cuts and sign changes" on a word that 1, 2 and 3 do not refuse
 abbrev pub AnyRun : Type 0
 AnyRun =
-    (w : RoundBitWord) (moves : List Move) → round_bit_check w ≡ Done → Claimed w moves (ran w moves)
+    (w : RoundBitWord) (moves : List Move) → round_bit_check w ≡ Done →
+    Claimed w moves (ran w moves)
 
 -- "The even rules are not part of this." If they were, this would have to hold, and does not, see
 -- below: an even cut by at least 1, after a `first` cut, plain or even, by at least 1, is one even
@@ -45,7 +49,8 @@ pub record EvenBeside : Type 0 where
       (even_cut_of (sign_change_of w).word d).word ≡ (sign_change_of (even_cut_of w d).word).word
   -- a cut by at least 1 after an even cut is one cut,
   pub then_cut : (w : RoundBitWord) (d k : ℕ) → (cut_of w (d + suc k)).outcome ≡ Done →
-      ((even_cut_of w d).outcome ≡ Done) × (cut_of (even_cut_of w d).word (suc k) ≡ cut_of w (d + suc k))
+      ((even_cut_of w d).outcome ≡ Done) ×
+      (cut_of (even_cut_of w d).word (suc k) ≡ cut_of w (d + suc k))
   -- but an even cut after a cut is not always one even cut, nor is one after an even cut
   pub after_cut : OneEvenCut (λ w d. (cut_of w d).word) → ⊥
   pub after_even_cut : OneEvenCut (λ w d. (even_cut_of w d).word) → ⊥

@@ -28,7 +28,8 @@ module _ (n : ℕ) (e : ℤ) (d : ℕ) where
         nat_abs (kept_after (cs ++ hand_out ∷ [])) ≤ 2 ^ opened.depth
     -- and so is the difference of the totals
     pub near : (step_of (left opened cs) hand_out).outcome ≡ Done →
-        nat_abs (total_in (cs ++ hand_out ∷ []) -ℤ total_out (cs ++ hand_out ∷ [])) ≤ 2 ^ opened.depth
+        nat_abs (total_in (cs ++ hand_out ∷ []) -ℤ total_out (cs ++ hand_out ∷ [])) ≤ 2 ^
+        opened.depth
     -- "Right after emptying the two totals are equal."
     pub equal : (step_of (left opened cs) empty).outcome ≡ Done →
         total_in (cs ++ empty ∷ []) ≡ total_out (cs ++ empty ∷ [])

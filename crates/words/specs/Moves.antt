@@ -72,7 +72,8 @@ module _ {W : Type 0} (value : W → ℤ) where
   -- how far that is from the first word's. A value is in halves of its word's unit, and one of the
   -- last word's is 2 ^ depths of the first word's; this is in the first word's
   abbrev pub far_from : W → List Move → W → ℕ
-  far_from w moves last = nat_abs ((apart_from_sign moves last *ℤ pos (2 ^ depths moves)) -ℤ value w)
+  far_from w moves last =
+      nat_abs ((apart_from_sign moves last *ℤ pos (2 ^ depths moves)) -ℤ value w)
 
 -- what is claimed of moves on a word, and of their end. `Near` is `Within` or `Closer`
 module _ {W : Type 0} (moved : W → Move → Moved W) (value : W → ℤ) (format : W → Format)

@@ -20,7 +20,8 @@ returns c =
     let f = c.args.f in
     let p = c.in_units in
     let w = c.half_odd-w in
-    fitted_answer half_unit_refused (λ (i : ℤ). half_unit_done (half_unit_word i f)) half_odd_of nearest_half_odd half_odd_stands f (in_units (sample bits) f.unit)
+    fitted_answer half_unit_refused (λ (i : ℤ). half_unit_done (half_unit_word i f)) half_odd_of nearest_half_odd half_odd_stands f
+    (in_units (sample bits) f.unit)
     p.result w.result _ (import_passed bits f c.requires).1.wide (below_pos (sample bits) f.unit)
     (parts_told bits f.unit (search rules) p.ensures.0)
     w.ensures

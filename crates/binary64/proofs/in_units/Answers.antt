@@ -41,8 +41,10 @@ returns-then-x-d c =
     let told = rw (to_z-of_z c.ranges.unit) at c.depth-d.ensures in
     let x = c.decoded-x.result in
     let half = ap (λ (p : Parts). p.half) c.cut.ensures.0 in
-    let most = half_le (quotient x.negative x.significand (2 ^ (c.depth-d.result - x.places))) in
-    (c.cut.ensures.0 ∙ right c.args.bits c.args.unit x c.depth-d.result c.decoded-x.ensures.has_value told c.if-x-d.true, omega (arith, c.cut.ensures.1, half, most))
+    let most = half_le (quotient x.negative x.significand (2 ^ (c.depth-d.result - x.places))) in (
+      c.cut.ensures.0 ∙ right c.args.bits c.args.unit x c.depth-d.result c.decoded-x.ensures.has_value told c.if-x-d.true,
+      omega (arith, c.cut.ensures.1, half, most),
+    )
 
 pub returns-else-x-d : goal.returns-else-x-d
 returns-else-x-d c =

@@ -125,7 +125,8 @@ repeated_moves t p o r = go (get_or t p.second none) (byte_kind _ o) refl
     far : (c : ℕ) → get_or t p.second none ≡ c → nat_abs (text_value (c ∷ rest)) ≤ 2 ^ length rest
     far c e = rw (drop-cons t p.first none (omega (arith, p.order, p.inside)), p.same ∙ e, count) at r
 
-    lead : (get_or rest m none ≡ plus → down (text_value rest) < up (text_value rest)) × (get_or rest m none ≡ minus → up (text_value rest) < down (text_value rest))
+    lead : (get_or rest m none ≡ plus → down (text_value rest) < up (text_value rest)) ×
+        (get_or rest m none ≡ minus → up (text_value rest) < down (text_value rest))
     lead = leads rest m (omega (arith, p.order, p.inside, length-drop (suc p.first) t)) zeros
 
     go : (c : ℕ) → Byte c → get_or t p.second none ≡ c → ⊥

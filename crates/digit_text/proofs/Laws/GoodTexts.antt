@@ -57,7 +57,8 @@ pub steps_no_fault : {b r : ℕ} {t : List ℕ} → Steps b t r → (strange_pla
 unfolding strange_place repeat_place strange_at repeats_at
 steps_no_fault {t = t} p = (leftmost_none t (strange_at t) (λ k l. (good k l).0), leftmost_none t (repeats_at t) (λ k l. rw (sign_from_none t k) (good k l).1))
   where
-    good : (k : ℕ) → k < length t → (strange (get_or t k none) ≡ false) × ((not (eqb (get_or t k none) none) && eqb (get_or t k none) (sign_from none t k)) ≡ false)
+    good : (k : ℕ) → k < length t → (strange (get_or t k none) ≡ false) ×
+        ((not (eqb (get_or t k none) none) && eqb (get_or t k none) (sign_from none t k)) ≡ false)
     good k l = neither _ _ (steps_good none (omega arith) p k l)
 
 -- ---- the three bytes

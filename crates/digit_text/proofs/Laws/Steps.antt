@@ -24,7 +24,8 @@ unfolding text_value
 nothing_worth = refl
 
 pub cons_law : (b : ℕ) (t : List ℕ) →
-    up (text_value (b ∷ t)) + down (digit_of b) * 2 ^ length t + down (text_value t) ≡ up (digit_of b) * 2 ^ length t + up (text_value t) + down (text_value (b ∷ t))
+    up (text_value (b ∷ t)) + down (digit_of b) * 2 ^ length t + down (text_value t) ≡
+    up (digit_of b) * 2 ^ length t + up (text_value t) + down (text_value (b ∷ t))
 unfolding text_value
 cons_law b t =
     let p = pos (2 ^ length t) in omega (arith, plus_law (digit_of b *ℤ p) (text_value t), times_law (digit_of b) p)

@@ -60,7 +60,8 @@ loop-columns-preserved c =
     let top : SFits w64 c.floor_by-top_row.result = search rules in
     let bottom : SFits w64 c.floor_by-bottom_row.result = search rules in
     let digit_fits : SFits w64 c.top_less_bottom.result = search rules in
-    let byte = c.byte_of.ensures ∙ ap byte_of (to_z-of_z digit_fits ∙ c.top_less_bottom.ensures) ∙ column _ _ _ _ _ _ some b.invariant.0 b.invariant.2 b.invariant.3 in
+    let byte = c.byte_of.ensures ∙ ap byte_of (to_z-of_z digit_fits ∙ c.top_less_bottom.ensures)
+    ∙ column _ _ _ _ _ _ some b.invariant.0 b.invariant.2 b.invariant.3 in
     let one : suc (b.columns - 1) ≡ b.columns = omega (arith, some) in (
       search rules,
       simp length-set b.invariant.1,

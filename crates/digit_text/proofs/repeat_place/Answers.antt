@@ -23,7 +23,8 @@ module _ (t : List ℕ) (left : ℕ) (some : 0 < left) (within : left ≤ length
   inside : length t - left < length t
   inside = omega arith
 
-  judged : {s : ℕ} {r : Bool} → s ≡ sign_before t (length t - left) → r ≡ (not (eqb (get_or t (length t - left) 0) none) && eqb (get_or t (length t - left) 0) s) →
+  judged : {s : ℕ} {r : Bool} → s ≡ sign_before t (length t - left) →
+      r ≡ (not (eqb (get_or t (length t - left) 0) none) && eqb (get_or t (length t - left) 0) s) →
       repeats_at t (length t - left) ≡ r
   judged {s = s} e g = repeats_is t (length t - left) s inside e ∙ sym g
 

@@ -23,15 +23,19 @@ returns-then-strange c =
     let left = c.loop-left.left in
     let some = c.loop-left-test.true in
     let within = c.loop-left.invariant.0 in
-    leftmost_at t (strange_at t) (length t - left) (inside t left some within) c.loop-left.invariant.1 (judged t left some within c.strange.ensures ∙ c.if-strange.true)
+    leftmost_at t (strange_at t) (length t - left) (inside t left some within) c.loop-left.invariant.1
+    (judged t left some within c.strange.ensures ∙ c.if-strange.true)
 
 pub loop-left-preserved : goal.loop-left-preserved
 loop-left-preserved c =
     let t = c.args.text.now in
     let left = c.loop-left.left in
     let some = c.loop-left-test.true in
-    let within = c.loop-left.invariant.0 in
-    (omega (arith, within), passed_more t (strange_at t) left some within c.loop-left.invariant.1 (judged t left some within c.strange.ensures ∙ c.if-strange.false))
+    let within = c.loop-left.invariant.0 in (
+      omega (arith, within),
+      passed_more t (strange_at t) left some within c.loop-left.invariant.1
+          (judged t left some within c.strange.ensures ∙ c.if-strange.false),
+    )
 
 pub returns : goal.returns
 unfolding strange_place

@@ -27,7 +27,8 @@ use Rattle.words.proofs.Formats.{narrower_passes, narrower_wider}
 use Rattle.words.proofs.Rights.{cleared_right, doubled_right}
 use Rattle.words.proofs.Operands.{done_passed, wider_right}
 use Rattle.half_unit.specs.Cuts.{cut_word}
-use Rattle.half_unit.specs.Conversions.{from_plain_check, from_plain_up_word, from_plain_up_of, even_floor, from_plain_even_word, from_plain_even_of, to_plain_word}
+use Rattle.half_unit.specs.Conversions.{from_plain_check, from_plain_up_word, from_plain_up_of, even_floor, from_plain_even_word, from_plain_even_of}
+use Rattle.half_unit.specs.Conversions.{to_plain_word}
 use Rattle.half_unit.specs.Conversions.{to_plain_check, to_plain_of, to_round_bit_word, to_round_bit_of}
 use Rattle.half_unit.specs.Conversions.{from_round_bit_word, from_round_bit_check, from_round_bit_of, interval}
 use Rattle.half_unit.proofs.Laws.Cuts.{floor_moves, answer_closed, cut_word_passes}

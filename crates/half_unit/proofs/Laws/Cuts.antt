@@ -87,7 +87,8 @@ cut_near w d =
     let x = w.number.0 in
     omega (arith, floor_moves x (half_unit_value w) (floor_by x d) 1 0 d (half_unit_law x) (omega arith), below_range x d)
 
-pub cut_value : (w : HalfUnitWord) (d : ℕ) → (cut_of w d).outcome ≡ Done → nat_abs ((half_unit_value (cut_of w d).word *ℤ pos (2 ^ d)) -ℤ half_unit_value w) < 2 ^ d
+pub cut_value : (w : HalfUnitWord) (d : ℕ) → (cut_of w d).outcome ≡ Done →
+    nat_abs ((half_unit_value (cut_of w d).word *ℤ pos (2 ^ d)) -ℤ half_unit_value w) < 2 ^ d
 cut_value w d e = rw (cut_done w d e).1 (cut_near w d)
 
 pub cut_none : (w : HalfUnitWord) → half_unit_check w ≡ Done → cut_of w 0 ≡ cut_answer (half_unit_done w)

@@ -85,7 +85,8 @@ counted_both {a = a} {b = b} {i = i} {j = j} x y = record { is = ap₂ added x.i
 
 -- -(m + n) and (-m) + (-n) have one value
 pub added_signs : (m n : RoundBit) → m.1 ≤ 1 → n.1 ≤ 1 →
-    (sign_changed (added m n)).0 +ℤ pos (sign_changed (added m n)).1 ≡ (added (sign_changed m) (sign_changed n)).0 +ℤ pos (added (sign_changed m) (sign_changed n)).1
+    (sign_changed (added m n)).0 +ℤ pos (sign_changed (added m n)).1 ≡
+    (added (sign_changed m) (sign_changed n)).0 +ℤ pos (added (sign_changed m) (sign_changed n)).1
 added_signs m n h k =
     rw (
       signs_value (added m n) (added_bit m n h k),

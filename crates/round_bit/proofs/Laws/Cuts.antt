@@ -88,7 +88,8 @@ cut_near w d h =
     (omega (ints, minus_law x (round_bit_value w), rest_adds_back w d, plus_law x rest, abs_range (2 ^ d) rest (rest_near w d h)))
 
 -- ---- cut: the value moves by at most half a new unit, which is 2 ^ d half old units
-pub cut_value : (w : RoundBitWord) (d : ℕ) → (cut_of w d).outcome ≡ Done → nat_abs ((round_bit_value (cut_of w d).word *ℤ pos (2 ^ d)) -ℤ round_bit_value w) ≤ 2 ^ d
+pub cut_value : (w : RoundBitWord) (d : ℕ) → (cut_of w d).outcome ≡ Done →
+    nat_abs ((round_bit_value (cut_of w d).word *ℤ pos (2 ^ d)) -ℤ round_bit_value w) ≤ 2 ^ d
 cut_value w d e = let c = cut_done w d e in rw c.1 (cut_near w d (cut_tells w d c.0).0.bit)
 
 pub cut_none : (w : RoundBitWord) → round_bit_check w ≡ Done → cut_of w 0 ≡ cut_answer (round_bit_done w)

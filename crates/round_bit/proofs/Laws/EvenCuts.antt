@@ -75,7 +75,8 @@ pub even_cut_closed : (w : RoundBitWord) (d : ℕ) → (even_cut_of w d).outcome
 even_cut_closed w d e = let c = even_cut_done w d e in rw c.1 (round_bit_passes _ (even_cut_right w d c.0))
 
 -- ---- how far the value moves, in half units
-floor_moves : (a : ℤ) (r s d : ℕ) → nat_abs ((value round_bit (floor_by a d) s *ℤ pos (2 ^ d)) -ℤ value round_bit a r) ≡ 2 * apart (s * 2 ^ d) (digits_below a d + r)
+floor_moves : (a : ℤ) (r s d : ℕ) → nat_abs ((value round_bit (floor_by a d) s *ℤ pos (2 ^ d)) -ℤ value round_bit a r) ≡
+    2 * apart (s * 2 ^ d) (digits_below a d + r)
 floor_moves a r s d =
     let v = value round_bit (floor_by a d) s in
     let x = v *ℤ pos (2 ^ d) in

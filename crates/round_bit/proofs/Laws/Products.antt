@@ -59,7 +59,8 @@ pub product_closed : (x y : RoundBitWord) → (product_of x y).outcome ≡ Done 
 product_closed x y e = let g = product_tells x y e in rw (product_is_word x y g) (product_word_right x y g)
 
 -- ---- the values multiply exactly: half units of the product's unit, twice, are half units times half units
-pub product_value : (x y : RoundBitWord) → (product_of x y).outcome ≡ Done → pos 2 *ℤ round_bit_value (product_of x y).word ≡ round_bit_value x *ℤ round_bit_value y
+pub product_value : (x y : RoundBitWord) → (product_of x y).outcome ≡ Done →
+    pos 2 *ℤ round_bit_value (product_of x y).word ≡ round_bit_value x *ℤ round_bit_value y
 unfolding product_word value
 product_value x y e =
     let g = product_tells x y e in

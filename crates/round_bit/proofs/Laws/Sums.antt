@@ -48,7 +48,8 @@ module _ (x y z : RoundBitWord) (done : (sum_check x y and_then round_bit_fitted
   answer_fits : (sum_check x y ≡ Done) × (mag (sum_word x z).number.0 < 2 ^ ((sum_word x z).format.width - 1))
   unfolding round_bit_fitted
   answer_fits =
-      done_fits round_bit_refused (λ a. a.outcome) (λ c. refl) (sum_check x y) (sum_word x z).format (sum_word x z).number.0 (round_bit_done (sum_word x z)) done
+      done_fits round_bit_refused (λ a. a.outcome) (λ c. refl) (sum_check x y) (sum_word x z).format (sum_word x z).number.0 (round_bit_done (sum_word x z))
+      done
 
   answer_operands : Operands x y
   answer_operands = sum_check_tells x y answer_fits.0
@@ -134,7 +135,8 @@ unfolding sum_word sign_change_word
 sum_sign_digits f e = let bit : ◌≡◌ {A = ℕ} 0 1 = ap (λ (w : RoundBitWord). w.number.1) e in omega arith
 
 -- ---- difference: x less y, and x less x is (-1,1), value 0, for every word
-pub difference_value : (x y : RoundBitWord) → (difference_of x y).outcome ≡ Done → round_bit_value (difference_of x y).word +ℤ round_bit_value y ≡ round_bit_value x
+pub difference_value : (x y : RoundBitWord) → (difference_of x y).outcome ≡ Done →
+    round_bit_value (difference_of x y).word +ℤ round_bit_value y ≡ round_bit_value x
 unfolding sign_change_word value
 difference_value x y e =
     let a = x.number.0 +ℤ pos x.number.1 in

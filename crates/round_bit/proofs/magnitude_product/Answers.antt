@@ -20,7 +20,8 @@ as_natural x f h = ap nat_abs (to_z-of_z f ∙ is_pos x h)
 
 -- the operands' product, from what the call of it ensures
 product_is : (m n : RoundBit) (p : ℕ) → SFits w64 m.0 → SFits w64 n.0 → pos 0 ≤ℤ m.0 → pos 0 ≤ℤ n.0 →
-    p ≡ nat_abs (to_z w64 (of_z w64 m.0)) * nat_abs (to_z w64 (of_z w64 n.0)) + nat_abs (to_z w64 (of_z w64 m.0)) * n.1 + nat_abs (to_z w64 (of_z w64 n.0)) * m.1 →
+    p ≡ nat_abs (to_z w64 (of_z w64 m.0)) * nat_abs (to_z w64 (of_z w64 n.0)) + nat_abs (to_z w64 (of_z w64 m.0)) * n.1 + nat_abs (to_z w64 (of_z w64 n.0)) *
+    m.1 →
     p ≡ mag m.0 * mag n.0 + mag m.0 * n.1 + mag n.0 * m.1
 product_is m n p f g h k e = e ∙ rw (as_natural m.0 f h, as_natural n.0 g k)
 
