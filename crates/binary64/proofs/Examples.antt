@@ -19,8 +19,8 @@ use Rattle.words.specs.HalfUnit.{half_unit_fitted}
 use Rattle.words.specs.Flat.{refused}
 use Rattle.binary64.specs.Import.{in_units, nearest_whole, floor_of, nearest_half_odd, whole_count, half_odd_count, import_check}
 use Rattle.binary64.proofs.Samples.{plus_zero, minus_zero, least_subnormal, most_subnormal, least_normal, most_finite, infinite, minus_infinite, quiet}
-use Rattle.binary64.proofs.Samples.{signalling, half, one, one_and_aHalf, two, two_and_aHalf, three, minus_half, minus_one, minus_one_and_aHalf}
-use Rattle.binary64.proofs.Samples.{minus_two_and_aHalf, unit, finest, coarsest, Row, gives, same, is}
+use Rattle.binary64.proofs.Samples.{signalling, half, one, one_and_a_half, two, two_and_a_half, three, minus_half, minus_one, minus_one_and_a_half}
+use Rattle.binary64.proofs.Samples.{minus_two_and_a_half, unit, finest, coarsest, Row, gives, same, is}
 
 -- half of the finest unit, 2^-127, and one and a half of it; the same of the coarsest, 2^127
 abbrev half_finest : ℕ
@@ -39,24 +39,24 @@ abbrev rows : List Row
 rows =
     -- "the nearest whole count of units, a tie going to the even count"
     is plain half 8 unit (pos 0)
-    ∷ is plain one_and_aHalf 8 unit (pos 2)
-    ∷ is plain two_and_aHalf 8 unit (pos 2)
+    ∷ is plain one_and_a_half 8 unit (pos 2)
+    ∷ is plain two_and_a_half 8 unit (pos 2)
     ∷ is plain minus_half 8 unit (pos 0)
-    ∷ is plain minus_one_and_aHalf 8 unit (negsuc 1)
-    ∷ is plain minus_two_and_aHalf 8 unit (negsuc 1)
+    ∷ is plain minus_one_and_a_half 8 unit (negsuc 1)
+    ∷ is plain minus_two_and_a_half 8 unit (negsuc 1)
     ∷ is plain half_finest 8 finest (pos 0)
     ∷ is plain more_finest 8 finest (pos 2)
     ∷ is plain half_coarsest 8 coarsest (pos 0)
     ∷ is plain more_coarsest 8 coarsest (pos 2)
     -- "round-bit gets round bit 0"
-    ∷ is round_bit two_and_aHalf 8 unit (pos 2)
+    ∷ is round_bit two_and_a_half 8 unit (pos 2)
     ∷ is round_bit three 8 unit (pos 3)
     -- "the nearest half-odd count, a tie going to the one with the lower digit clear"
     ∷ is half_unit half 8 unit (pos 0)
     ∷ is half_unit one 8 unit (pos 0)
-    ∷ is half_unit one_and_aHalf 8 unit (pos 1)
+    ∷ is half_unit one_and_a_half 8 unit (pos 1)
     ∷ is half_unit two 8 unit (pos 2)
-    ∷ is half_unit two_and_aHalf 8 unit (pos 2)
+    ∷ is half_unit two_and_a_half 8 unit (pos 2)
     ∷ is half_unit three 8 unit (pos 2)
     ∷ is half_unit minus_half 8 unit (negsuc 0)
     ∷ is half_unit minus_one 8 unit (negsuc 1)

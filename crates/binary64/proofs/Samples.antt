@@ -46,14 +46,14 @@ half = 0x3fe0_0000_0000_0000
 abbrev pub one : ℕ
 one = 0x3ff0_0000_0000_0000
 
-abbrev pub one_and_aHalf : ℕ
-one_and_aHalf = 0x3ff8_0000_0000_0000
+abbrev pub one_and_a_half : ℕ
+one_and_a_half = 0x3ff8_0000_0000_0000
 
 abbrev pub two : ℕ
 two = 0x4000_0000_0000_0000
 
-abbrev pub two_and_aHalf : ℕ
-two_and_aHalf = 0x4004_0000_0000_0000
+abbrev pub two_and_a_half : ℕ
+two_and_a_half = 0x4004_0000_0000_0000
 
 abbrev pub three : ℕ
 three = 0x4008_0000_0000_0000
@@ -64,11 +64,11 @@ minus_half = 0xbfe0_0000_0000_0000
 abbrev pub minus_one : ℕ
 minus_one = 0xbff0_0000_0000_0000
 
-abbrev pub minus_one_and_aHalf : ℕ
-minus_one_and_aHalf = 0xbff8_0000_0000_0000
+abbrev pub minus_one_and_a_half : ℕ
+minus_one_and_a_half = 0xbff8_0000_0000_0000
 
-abbrev pub minus_two_and_aHalf : ℕ
-minus_two_and_aHalf = 0xc004_0000_0000_0000
+abbrev pub minus_two_and_a_half : ℕ
+minus_two_and_a_half = 0xc004_0000_0000_0000
 
 -- 1.75 and -0.25
 abbrev pub one_and_three_quarters : ℕ

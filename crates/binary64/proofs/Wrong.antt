@@ -17,8 +17,8 @@ use Rattle.words.specs.RoundBit.{round_bit_fitted}
 use Rattle.words.specs.HalfUnit.{half_unit_fitted}
 use Rattle.words.specs.Flat.{flat, refused}
 use Rattle.binary64.specs.Import.{in_units, nearest_whole, floor_of, nearest_half_odd, whole_count, half_odd_count, import_check}
-use Rattle.binary64.proofs.Samples.{minus_zero, least_subnormal, most_finite, infinite, quiet, signalling, half, one, one_and_aHalf, two}
-use Rattle.binary64.proofs.Samples.{two_and_aHalf, three, minus_half, minus_one, minus_one_and_aHalf, minus_two_and_aHalf}
+use Rattle.binary64.proofs.Samples.{minus_zero, least_subnormal, most_finite, infinite, quiet, signalling, half, one, one_and_a_half, two}
+use Rattle.binary64.proofs.Samples.{two_and_a_half, three, minus_half, minus_one, minus_one_and_a_half, minus_two_and_a_half}
 use Rattle.binary64.proofs.Samples.{one_and_three_quarters, minus_quarter, unit, finest, Row, gives, same, is}
 
 -- of each import the three stand-ins: one that refuses, one that answers a fixed word, the blank one, and one that copies its bits through
@@ -40,23 +40,23 @@ mistakes =
     -- a tie away from zero; up; down; to the odd count
     is plain half 8 unit (pos 1)
     ∷ is plain minus_half 8 unit (negsuc 0)
-    ∷ is plain minus_one_and_aHalf 8 unit (negsuc 0)
-    ∷ is plain one_and_aHalf 8 unit (pos 1)
-    ∷ is plain two_and_aHalf 8 unit (pos 3)
-    ∷ is round_bit minus_two_and_aHalf 8 unit (negsuc 2)
+    ∷ is plain minus_one_and_a_half 8 unit (negsuc 0)
+    ∷ is plain one_and_a_half 8 unit (pos 1)
+    ∷ is plain two_and_a_half 8 unit (pos 3)
+    ∷ is round_bit minus_two_and_a_half 8 unit (negsuc 2)
     -- truncation; the floor
     ∷ is plain one_and_three_quarters 8 unit (pos 1)
     ∷ is plain minus_quarter 8 unit (negsuc 0)
     -- 8 tested before rounding: 1.5 let into 2 digits as 2, and -2.5, which is -2 there, refused; the end of the width for what is past it
-    ∷ is plain one_and_aHalf 2 unit (pos 2)
-    ∷ gives plain minus_two_and_aHalf 2 unit (refused 8)
+    ∷ is plain one_and_a_half 2 unit (pos 2)
+    ∷ gives plain minus_two_and_a_half 2 unit (refused 8)
     ∷ is plain two 2 unit (pos 1)
     -- an exponent off by one, either way; the unit the wrong way round
     ∷ is plain one 8 unit (pos 2)
     ∷ is plain two 8 unit (pos 1)
     ∷ is plain two 8 (pos 1) (pos 4)
     -- a round bit for the half; the value that a round bit would make fit
-    ∷ gives round_bit one_and_aHalf 8 unit (flat 0 (pos 1) 1 8 unit)
+    ∷ gives round_bit one_and_a_half 8 unit (flat 0 (pos 1) 1 8 unit)
     ∷ gives round_bit two 2 unit (flat 0 (pos 1) 1 2 unit)
     -- the hidden digit given where the exponent's field is 0: it shows at minus zero
     ∷ is half_unit minus_zero 8 unit (negsuc 0)
@@ -64,7 +64,7 @@ mistakes =
     ∷ is half_unit one 8 unit (pos 1)
     ∷ is half_unit two 8 unit (pos 1)
     ∷ is half_unit minus_one 8 unit (negsuc 0)
-    ∷ is half_unit one_and_aHalf 8 unit (pos 0)
+    ∷ is half_unit one_and_a_half 8 unit (pos 0)
     -- toward zero; to the nearest whole count
     ∷ is half_unit minus_quarter 8 unit (pos 0)
     ∷ is half_unit one_and_three_quarters 8 unit (pos 2)

@@ -1,7 +1,7 @@
 -- Only one outcome meets each public function's contract.
 use mathlib.Core.Path.{sym, ◌∙◌}
 use Rattle.integers.specs.OneOutcome.{OneResult}
-use Rattle.words.proofs.number_of.Reads as number_of_lem
+use Rattle.words.proofs.number_of.Reads as number-of
 use Rattle.words.proofs.refuse_for.Reads as refuse-for
 use Rattle.words.proofs.or_else.Reads as or_else
 use Rattle.words.proofs.bad_unit.Reads as bad-unit
@@ -15,7 +15,7 @@ use Rattle.words.proofs.wider.Reads as wider
 use Rattle.words.proofs.narrower.Reads as narrower
 use Rattle.words.proofs.plain_check.Reads as plain-check
 use Rattle.words.proofs.plain_refused.Reads as plain-refused
-use Rattle.words.proofs.plain_done.Reads as plain_Done
+use Rattle.words.proofs.plain_done.Reads as plain-done
 use Rattle.words.proofs.plain_fitted.Reads as plain-fitted
 use Rattle.words.proofs.round_bit_check.Reads as round-bit-check
 use Rattle.words.proofs.round_bit_refused.Reads as round-bit-refused
@@ -26,7 +26,7 @@ use Rattle.words.proofs.half_unit_refused.Reads as half-unit-refused
 use Rattle.words.proofs.half_unit_done.Reads as half-unit-done
 use Rattle.words.proofs.half_unit_fitted.Reads as half-unit-fitted
 
-number_of_one : OneResult (number_of_lem.Post tt)
+number_of_one : OneResult (number-of.Post tt)
 number_of_one a x y e f p q = p ∙ sym q
 
 refuse_for_one : OneResult (refuse-for.Post tt)
@@ -68,7 +68,7 @@ plain_check_one a x y e f p q = p ∙ sym q
 plain_refused_one : OneResult (plain-refused.Post tt)
 plain_refused_one a x y e f p q = p ∙ sym q
 
-plain_done_one : OneResult (plain_Done.Post tt)
+plain_done_one : OneResult (plain-done.Post tt)
 plain_done_one a x y e f p q = p ∙ sym q
 
 plain_fitted_one : OneResult (plain-fitted.Post tt)
