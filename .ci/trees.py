@@ -51,7 +51,7 @@ class Tree:
     def __init__(self, place, root, name):
         self.path, self.root, self.asked = place / name, root, place / f"{name}.asked"
         self.crates = below(root)
-        self.everything = [f"{'run' if crate == 'listing' else 'lib'} {crate}" for crate in self.crates]
+        self.everything = [f"{'run --cpu x86-64' if crate == 'listing' else 'lib'} {crate}" for crate in self.crates]
         self.out = self.path / "crates/listing/out"
         self.path.mkdir()
         for part in ("list", "crates.txt"):
