@@ -143,7 +143,8 @@ fn even_floor(x: i64, d: u64) -> i64
 {
     let floor = integers::floor_by(x, d);
     let dropped = integers::any_below(x, d);
-    if dropped == 0 {
+    let exact = dropped == 0;
+    if exact {
         integers::cleared(floor)
     } else {
         floor

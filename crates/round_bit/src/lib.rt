@@ -220,7 +220,9 @@ fn even_round_bit(a: i64, round: u8, q: i64, k: u64) -> u8
     let value = a + round as i64;
     let odd = q & 1;
     let even = 1 - odd;
-    if middle(q, k) + even <= value { 1 } else { 0 }
+    let least = middle(q, k) + even;
+    let up = least <= value;
+    if up { 1 } else { 0 }
 }
 
 fn even_cut_round_bit(w: RoundBitWord, q: i64, d: u64) -> u8

@@ -102,8 +102,8 @@ overflow_sub-even c = rw (odd c) (search (small-fits, bits_small, digit_le (a c)
 pub middle-requires : goal.middle-requires
 middle-requires c = (c.requires.0, rw (to_z-of_z c.ranges.q) (floor-small (a c) (k c) c.requires.0 c.requires.1 (floor c)))
 
-pub overflow_add-middle : goal.overflow_add-middle
-overflow_add-middle c =
+pub overflow_add-least : goal.overflow_add-least
+overflow_add-least c =
     let s = c.before in
     rw (to_z-of_z (middle-fits c), there c, odd s) (search (up_fits s, to_z-of_z, small-fits, bits_small, digit_le (a s) (suc (k s)), one))
 
@@ -127,8 +127,8 @@ tested c =
 by-test : (s : goal.Start) (t u : Bool) → t ≡ goes_up (r s) (a s) (k s) → t ≡ u → cond u 1 0 ≡ even_round_bit (r s) (a s) (k s)
 by-test s t u e f = sym (even_round_bit_lem (r s) (a s) (k s) s.requires.2 ∙ ap (λ (v : Bool). cond v 1 0) (sym e ∙ f))
 
-pub returns-then-middle-even : goal.returns-then-middle-even
-returns-then-middle-even c = by-test c.before.before _ true (tested c.before) c.if-middle-even.true
+pub returns-then-up : goal.returns-then-up
+returns-then-up c = by-test c.before.before _ true (tested c.before) c.if-up.true
 
-pub returns-else-middle-even : goal.returns-else-middle-even
-returns-else-middle-even c = by-test c.before.before _ false (tested c.before) c.if-middle-even.false
+pub returns-else-up : goal.returns-else-up
+returns-else-up c = by-test c.before.before _ false (tested c.before) c.if-up.false
