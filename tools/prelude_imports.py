@@ -38,7 +38,7 @@ def turn(file, library):
         return
     theirs = imports("Rattle.std.specs.Prelude", [name for name in names if name in library])
     ours = imports("Rattle.integers.specs.Names", [name for name in names if name not in library])
-    file.write_text(OURS.sub("", OURS.sub(lambda _: "\0", text, count=1)).replace("\0", theirs + ours))
+    file.write_text(OURS.sub("", OURS.sub(lambda _: "\0\n", text, count=1)).replace("\0\n", theirs + ours))
     print("changed", file)
 
 
