@@ -5,7 +5,7 @@
 // which bytes are moved, of a reader and a writer that say which they have, and how many: never more than there is
 // room for, and `Whole` of a text only once all of it was taken. No contract can say which bytes the streams of the
 // process have.
-ghost use Rattle.std.specs.Prelude.{◌≡◌, ◌<◌, ◌≤◌, length, take};
+ghost use Rattle.std.specs.Prelude.{◌≡◌, ◌≢◌, ◌<◌, ◌≤◌, length, take};
 ghost use Rattle.io.specs.Counts.{IsPrefixLen};
 ghost use Rattle.std.specs.Io.{ReadsAtMost, WritesAtMost};
 ghost use Rattle.std.specs.Io.KnownBytes.{Appends, Consumes, IsAtEnd, ReadConsumes, WriteAppends};
@@ -69,6 +69,7 @@ fn write_once<W: Write>(writer: &mut W, buf: &[u8]) -> Result<usize>
 pub(crate) fn read_to_end<R: Read>(reader: &mut R, buf: &mut [u8]) -> Run
     ensures prefix_len { IsPrefixLen result.count buf.new }
     ensures end_value { result.count ≡ length buf.new → result.end ≡ End.Whole }
+    ensures never_stuck { result.end ≢ End.Stuck }
     ensures bytes { Consumes (R.remaining reader.old) (R.remaining reader.new) (take result.count buf.new) }
     ensures file_end { result.end ≡ End.Whole → result.count < length buf.new → IsAtEnd (R.remaining reader.new) }
 {
