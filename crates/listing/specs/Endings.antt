@@ -12,8 +12,8 @@ use Rattle.listing.specs.declared.Ended.TheVariants.{Listed, Refused, NotRead, N
 abbrev pub read_of : List ℕ → List ℕ
 read_of input = take (longest_file + 1) input
 
--- a file's listing stands behind what the output had; nothing, where a read failed; and a part of it,
--- where a write failed or took nothing
+-- a file's listing stands behind what the output had; nothing does, where a read failed; and a part
+-- of it, where a write failed or took nothing
 abbrev pub LeavesListing : Ended → List ℕ → Option (List ℕ) → Option (List ℕ) → Type 0
 LeavesListing Listed file old new = (list_check file ≡ Done) × Appends old new (listing file)
 LeavesListing Refused file old new = (list_check file ≢ Done) × Appends old new (listing file)
