@@ -19,4 +19,5 @@ LeavesListing Listed file old new = (list_check file ≡ Done) × Appends old ne
 LeavesListing Refused file old new = (list_check file ≢ Done) × Appends old new (listing file)
 LeavesListing (NotRead end) file old new = (end ≢ Whole) × (end ≢ Stuck) × Keeps old new
 LeavesListing (NotWritten end) file old new =
-    (end ≢ Whole) × ((n : ℕ) × (n < length (listing file)) × Appends old new (take n (listing file)))
+    (end ≢ Whole)
+    × ((n : ℕ) × (n < length (listing file)) × Appends old new (take n (listing file)))
