@@ -26,9 +26,9 @@ use Rattle.words.specs.RoundBit.{round_bit_value, round_bit_check, round_bit_fit
 use Rattle.words.specs.HalfUnit.{half_unit_check, half_unit_fitted}
 use Rattle.words.specs.Flat.{Flat, flat, flat_round_bit, flat_half_unit, same_flat}
 use Rattle.words.specs.declared.Cause.TheVariants.{Depth, UnitPast}
-use Rattle.words.specs.declared.Outcome.TheVariants.{Done, Refused}
+use Rattle.words.specs.Outcomes.{Done, Refused}
 use Rattle.words.specs.declared.Format.{Format}
-use Rattle.words.specs.declared.RoundBitWord.{RoundBitWord}
+use Rattle.words.specs.Kinds.{RoundBitWord}
 use Rattle.words.specs.declared.WriteAnswer.{WriteAnswer}
 use Rattle.words.proofs.Flat.{same_flat_lem}
 use Rattle.round_bit.specs.declared.CutAnswer.{CutAnswer}

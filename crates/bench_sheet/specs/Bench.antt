@@ -7,11 +7,11 @@ use Rattle.std.specs.Prelude.{ℕ, ◌+◌, ◌-◌, Bool, true, ◌&&◌, List,
 use Rattle.std.specs.Prelude.{pos, negsuc, ◌*ℤ◌}
 use Rattle.integers.specs.Names.{eq_z, fits_width, same_bytes}
 use Rattle.std.specs.Prelude.{replicate}
-use Rattle.words.specs.declared.Outcome.{Outcome}
-use Rattle.words.specs.declared.Outcome.TheVariants.{Done}
-use Rattle.words.specs.declared.PlainWord.{PlainWord}
-use Rattle.words.specs.declared.RoundBitWord.{RoundBitWord}
-use Rattle.words.specs.declared.HalfUnitWord.{HalfUnitWord}
+use Rattle.words.specs.Outcomes.{Outcome}
+use Rattle.words.specs.Outcomes.{Done}
+use Rattle.words.specs.Kinds.{PlainWord}
+use Rattle.words.specs.Kinds.{RoundBitWord}
+use Rattle.words.specs.Kinds.{HalfUnitWord}
 use Rattle.words.specs.Refusals.{number_of}
 use Rattle.words.specs.RoundBit.{round_bit_value}
 use Rattle.words.specs.Flat.{Flat, flat, laid_flat, flat_round_bit, flat_half_unit, same_flat}

@@ -5,10 +5,10 @@ use Rattle.std.specs.Prelude.{ℕ, ◌≡◌, true, List, [], ◌∷◌, pos, �
 use Rattle.integers.specs.Names.{fits_width}
 use contract.Lifetimes.{Lfts}
 use Rattle.std.specs.Borrow.{Bor, MutBor}
-use Rattle.words.specs.declared.Outcome.{Outcome}
-use Rattle.words.specs.declared.Outcome.TheVariants.{Done}
+use Rattle.words.specs.Outcomes.{Outcome}
+use Rattle.words.specs.Outcomes.{Done}
 use Rattle.words.specs.declared.Format.{Format}
-use Rattle.words.specs.declared.RoundBitWord.{RoundBitWord}
+use Rattle.words.specs.Kinds.{RoundBitWord}
 use Rattle.words.specs.declared.WriteAnswer.{WriteAnswer}
 use Rattle.digit_text.specs.declared.ReadAnswer.{ReadAnswer}
 use Rattle.words.specs.Refusals.{number_of}

@@ -17,7 +17,7 @@ use borrow.Author.Tests.{not-false}
 use Rattle.words.specs.Words.{most_unit}
 use Rattle.words.specs.Refusals.{refuse_for, format_check}
 use Rattle.words.specs.declared.Cause.TheVariants.{NotFinite}
-use Rattle.words.specs.declared.Outcome.TheVariants.{Done}
+use Rattle.words.specs.Outcomes.{Done}
 use Rattle.words.specs.declared.Format.{Format}
 use Rattle.words.proofs.Laws.{both_passed, passed, RightFormat, right_format}
 use Rattle.binary64.specs.declared.Parts.{Parts}

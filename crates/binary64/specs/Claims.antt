@@ -8,9 +8,9 @@ use Rattle.std.specs.Prelude.{ℕ, ◌+◌, ◌-◌, ◌*◌, ◌^◌, ◌≤◌
 use Rattle.std.specs.Prelude.{ℤ, pos, neg_ℤ, nat_abs, ◌+ℤ◌, ◌-ℤ◌, ◌*ℤ◌}
 use Rattle.integers.specs.Names.{lt_z, lowest}
 use Rattle.words.specs.declared.Cause.{Cause}
-use Rattle.words.specs.declared.Outcome.TheVariants.{Done, Refused}
+use Rattle.words.specs.Outcomes.{Done, Refused}
 use Rattle.words.specs.declared.Format.{Format}
-use Rattle.words.specs.declared.PlainWord.{PlainWord}
+use Rattle.words.specs.Kinds.{PlainWord}
 use Rattle.words.specs.Words.{Kind, value, outside}
 use Rattle.words.specs.Words.Kind.{plain, round_bit, half_unit}
 use Rattle.words.specs.Refusals.{cause_number, format_check}

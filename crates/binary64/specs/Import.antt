@@ -10,11 +10,11 @@ use Rattle.std.specs.Float.Ieee.Positive.{num, den}
 use Rattle.std.specs.Float.Ieee.Nearest.{closest}
 use Rattle.std.specs.Prelude.{ℕ, ◌*◌, Bool, true, false, not, cond, eqb, ℤ, pos, neg_ℤ}
 use Rattle.integers.specs.Names.{cleared}
-use Rattle.words.specs.declared.Outcome.{Outcome}
+use Rattle.words.specs.Outcomes.{Outcome}
 use Rattle.words.specs.declared.Format.{Format}
-use Rattle.words.specs.declared.PlainAnswer.{PlainAnswer}
-use Rattle.words.specs.declared.RoundBitAnswer.{RoundBitAnswer}
-use Rattle.words.specs.declared.HalfUnitAnswer.{HalfUnitAnswer}
+use Rattle.words.specs.Kinds.{PlainAnswer}
+use Rattle.words.specs.Kinds.{RoundBitAnswer}
+use Rattle.words.specs.Kinds.{HalfUnitAnswer}
 use Rattle.words.specs.Refusals.{refuse, ◌or_else◌, format_check}
 use Rattle.words.specs.Plain.{plain_word, plain_fitted, ◌and_then◌ as ◌and_then_plain◌}
 use Rattle.words.specs.RoundBit.{round_bit_word, round_bit_fitted}

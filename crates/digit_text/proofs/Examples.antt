@@ -11,7 +11,7 @@ use Rattle.words.specs.declared.Cause.TheVariants.{Width, Byte, DigitText}
 use Rattle.words.specs.Refusals.{format_check}
 use Rattle.words.specs.Formats.{format}
 use Rattle.words.specs.RoundBit.{round_bit_word}
-use Rattle.words.specs.declared.Outcome.TheVariants.{Done, Refused}
+use Rattle.words.specs.Outcomes.{Done, Refused}
 use Rattle.digit_text.specs.declared.ReadAnswer.{ReadAnswer}
 use Rattle.digit_text.specs.Digits.{plus, none, minus, signed_digit, byte_of, byte_at, text, digit_of, text_value, sign_before}
 use Rattle.digit_text.specs.Reading.{strange_at, repeats_at, strange_place, repeat_place, fault_check, read_check, place_of, read_round, read_word, read_of}

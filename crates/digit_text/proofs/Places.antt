@@ -3,6 +3,7 @@
 -- Proved here: `turned`, `leftmost_holds`, `leftmost_before`, `found_leftmost`, `not_found`, `leftmost_none`, `leftmost_at`,
 -- `passed_more`, `strange_is`, `repeats_is`, `place_next`, `fault_free`, `free_fault`, `byte_finding`, `repeat_finding`, `format_place`,
 -- `place_fits`, `read_right`.
+use Rattle.std.specs.Prelude.{Ok, Err}
 use Prim.Native.Nat.{ℕ, ◌+◌, ◌-◌, ◌≤◌, ◌<◌}
 use native.Mathlib.Numerals.{add-one}
 use native.Mathlib.Omega.{arith}
@@ -22,8 +23,8 @@ use Rattle.words.specs.Formats.{format}
 use Rattle.words.specs.declared.Cause.{Cause}
 use Rattle.words.specs.declared.Cause.TheVariants.{Width, Unit, Byte, DigitText}
 use Rattle.words.specs.declared.Format.{Format}
-use Rattle.words.specs.declared.Outcome.{Outcome}
-use Rattle.words.specs.declared.Outcome.TheVariants.{Done, Refused}
+use Rattle.words.specs.Outcomes.{Outcome}
+use Rattle.words.specs.Outcomes.{Done, Refused}
 use Rattle.words.proofs.Laws.{RightFormat, right_format, refused_not_done, both_passed, passed, or-false}
 use Rattle.digit_text.specs.declared.Finding.{Finding}
 use Rattle.digit_text.specs.Digits.{none, sign_before}
@@ -150,8 +151,8 @@ place_fits t e = go (format_check f) refl
     f = format (length t) e
 
     go : (o : Outcome) → format_check f ≡ o → place_of t (o or_else fault_check t) ≤ 63
-    go Done d = omega (arith, place_le t (fault_check t), (right_format f d).wide)
-    go (Refused c) d = let none_told = rw d at (format_place t f) in rw none_told (omega arith)
+    go (Ok tt) d = omega (arith, place_le t (fault_check t), (right_format f d).wide)
+    go (Err c) d = let none_told = rw d at (format_place t f) in rw none_told (omega arith)
 
 -- ---- what a passed check of a reading tells
 pub read_right : (t : List ℕ) (e : ℤ) → read_check t e ≡ Done → RightFormat (format (length t) e) × (faulty t ≡ false)

@@ -21,8 +21,8 @@ use Rattle.integers.proofs.Times.{plus_times, times_assoc}
 use Rattle.words.specs.Refusals.{refuse_for}
 use Rattle.words.specs.RoundBit.{round_bit_check}
 use Rattle.words.specs.declared.Cause.TheVariants.{Buffer}
-use Rattle.words.specs.declared.Outcome.TheVariants.{Done}
-use Rattle.words.specs.declared.RoundBitWord.{RoundBitWord}
+use Rattle.words.specs.Outcomes.{Done}
+use Rattle.words.specs.Kinds.{RoundBitWord}
 use Rattle.words.proofs.Laws.{both_passed, passed}
 use Rattle.digit_text.specs.Digits.{plus, none, minus, byte_of, digit_of, text_value, sign_before, write_check}
 use Rattle.digit_text.specs.Reading.{read_round}

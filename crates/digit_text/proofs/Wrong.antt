@@ -13,7 +13,7 @@ use Rattle.integers.specs.Bytes.{same_bytes}
 use Rattle.words.specs.Refusals.{number_of, format_check, word_check, lent_after, write_answer}
 use Rattle.words.specs.RoundBit.{round_bit_check}
 use Rattle.words.specs.Flat.{Flat, flat, laid_flat, same_flat, round_bit_at as at, done, refused}
-use Rattle.words.specs.declared.RoundBitWord.{RoundBitWord}
+use Rattle.words.specs.Kinds.{RoundBitWord}
 use Rattle.digit_text.specs.Digits.{plus, none, minus, signed_digit, byte_of, digit_of, byte_at, text, text_value, sign_before, write_check, write_of}
 use Rattle.digit_text.specs.Digits.{buffer_of}
 use Rattle.digit_text.specs.Reading.{strange_at, repeats_at, strange_place, repeat_place, fault_check, read_check, place_of, read_round, read_word, read_of}

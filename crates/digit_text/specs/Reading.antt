@@ -3,9 +3,9 @@ use Rattle.std.specs.Prelude.{ℕ, Bool, not, cond, ◌&&◌, ◌||◌, List, eq
 use Rattle.std.specs.Prelude.{length, get_or}
 use Rattle.integers.specs.Names.{first_bad}
 use Rattle.words.specs.declared.Cause.{Cause}
-use Rattle.words.specs.declared.Outcome.{Outcome}
-use Rattle.words.specs.declared.RoundBitWord.{RoundBitWord}
-use Rattle.words.specs.declared.RoundBitAnswer.{RoundBitAnswer}
+use Rattle.words.specs.Outcomes.{Outcome}
+use Rattle.words.specs.Kinds.{RoundBitWord}
+use Rattle.words.specs.Kinds.{RoundBitAnswer}
 use Rattle.words.specs.Refusals.{number_of, refuse, ◌or_else◌, format_check, after}
 use Rattle.words.specs.Formats.{format}
 use Rattle.words.specs.RoundBit.{round_bit_word, round_bit_done, round_bit_refused}

@@ -11,10 +11,10 @@ use lib.Seq.{drop-cons}
 use Rattle.words.specs.Refusals.{◌or_else◌, differ}
 use Rattle.words.specs.RoundBit.{round_bit_check}
 use Rattle.words.specs.declared.Cause.{Cause}
-use Rattle.words.specs.declared.Outcome.{Outcome}
-use Rattle.words.specs.declared.Outcome.TheVariants.{Done, Refused}
+use Rattle.words.specs.Outcomes.{Outcome}
+use Rattle.words.specs.Outcomes.{Done, Refused}
 use Rattle.words.specs.declared.Format.{Format}
-use Rattle.words.specs.declared.RoundBitWord.{RoundBitWord}
+use Rattle.words.specs.Kinds.{RoundBitWord}
 use Rattle.round_bit.specs.Arithmetic.{product_word}
 use Rattle.filter_bank.specs.Bank.{extended, products, words_check, any_differ}
 use Rattle.filter_bank.proofs.Rows.{nothing, at}

@@ -1,6 +1,7 @@
 -- The check of a channel as the code goes through it: 17, the row and the products' unit first, and the output's unit with the cut.
 -- Assumes nothing.
 -- Proved here: `taps_alone`, `row_passed`, `channel_refused`, `channel_cut`.
+use Rattle.std.specs.Prelude.{Ok, Err}
 use Prim.Native.Nat.{ℕ, ◌≤◌}
 use mathlib.Core.Path.{◌≡◌, refl, sym, ap}
 use mathlib.Core.Bool.{Bool, true, false, ◌||◌}
@@ -15,9 +16,9 @@ use Rattle.words.specs.Formats.{narrower_check}
 use Rattle.words.specs.RoundBit.{round_bit_refused}
 use Rattle.words.specs.declared.Cause.{Cause}
 use Rattle.words.specs.declared.Cause.TheVariants.{UnitPast}
-use Rattle.words.specs.declared.Outcome.{Outcome}
-use Rattle.words.specs.declared.Outcome.TheVariants.{Done, Refused}
-use Rattle.words.specs.declared.RoundBitWord.{RoundBitWord}
+use Rattle.words.specs.Outcomes.{Outcome}
+use Rattle.words.specs.Outcomes.{Done, Refused}
+use Rattle.words.specs.Kinds.{RoundBitWord}
 use Rattle.words.proofs.Laws.{refused_not_done, passed, three_passed, round_bit_passes}
 use Rattle.round_bit.specs.Cuts.{cut_check, cut_of}
 use Rattle.filter_bank.specs.Bank.{most_channel, cut_depth, products, total, output_word, products_unit, row_check}
@@ -26,10 +27,10 @@ use Rattle.filter_bank.proofs.Laws.Passed.{row_passes, sum_good}
 
 -- a third check that has one more cause refuses what it refused, for the same
 more_causes : (o p : Outcome) (a b : Bool) (c : Cause) → (o or_else p or_else refuse 7 a) ≡ Refused c → (o or_else p or_else refuse 7 (a || b)) ≡ Refused c
-more_causes (Refused d) p a b c e = e
-more_causes Done (Refused d) a b c e = e
-more_causes Done Done true b c e = e
-more_causes Done Done false b c e = absurd (refused_not_done (sym e))
+more_causes (Err d) p a b c e = e
+more_causes (Ok tt) (Err d) a b c e = e
+more_causes (Ok tt) (Ok tt) true b c e = e
+more_causes (Ok tt) (Ok tt) false b c e = absurd (refused_not_done (sym e))
 
 -- a channel over 3 is refused, whatever taps stand for its own
 pub taps_alone : (taps other window : List RoundBitWord) (channel : ℕ) → (channel ≤ most_channel → taps ≡ other) →

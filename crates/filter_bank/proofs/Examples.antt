@@ -8,8 +8,8 @@ use Rattle.integers.specs.Numbers.{fits_width, floor_by, lowest, digit}
 use Rattle.words.specs.Refusals.{format_check, word_check}
 use Rattle.words.specs.Formats.{format}
 use Rattle.words.specs.RoundBit.{round_bit_word, round_bit_check}
-use Rattle.words.specs.declared.Outcome.TheVariants.{Done}
-use Rattle.words.specs.declared.RoundBitWord.{RoundBitWord}
+use Rattle.words.specs.Outcomes.{Done}
+use Rattle.words.specs.Kinds.{RoundBitWord}
 use Rattle.round_bit.specs.Cuts.{cut_by}
 use Rattle.round_bit.specs.Arithmetic.{sum_word, magnitude_product, multiplied, product_word}
 use Rattle.filter_bank.specs.Bank.{products, added_to, total, output_word, words_check, any_differ, output_answer, output_of}

@@ -11,9 +11,9 @@ use Rattle.words.specs.Refusals.{differ}
 use Rattle.words.specs.Formats.{format}
 use Rattle.words.specs.RoundBit.{round_bit_word, round_bit_check}
 use Rattle.words.specs.declared.Cause.TheVariants.{Mismatch}
-use Rattle.words.specs.declared.Outcome.TheVariants.{Done}
+use Rattle.words.specs.Outcomes.{Done}
 use Rattle.words.specs.declared.Format.{Format}
-use Rattle.words.specs.declared.RoundBitWord.{RoundBitWord}
+use Rattle.words.specs.Kinds.{RoundBitWord}
 use Rattle.words.proofs.Laws.{passed, both_passed, three_passed, or-false, RightRoundBit, round_bit_right}
 use Rattle.words.proofs.Operands.{same_format}
 use Rattle.filter_bank.specs.Bank.{tap_width, sample_width, words_check, unit_of, any_differ, unlike, row_check}

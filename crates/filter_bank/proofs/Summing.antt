@@ -8,10 +8,10 @@ use lib.IntN.{◌+ℤ◌}
 use lib.Signed.{mag}
 use lib.ListN.{length, drop}
 use Rattle.words.specs.Formats.{format}
-use Rattle.words.specs.declared.Outcome.TheVariants.{Done}
+use Rattle.words.specs.Outcomes.{Done}
 use Rattle.words.specs.declared.Format.{Format}
 use Rattle.words.specs.declared.RoundBit.{RoundBit}
-use Rattle.words.specs.declared.RoundBitWord.{RoundBitWord}
+use Rattle.words.specs.Kinds.{RoundBitWord}
 use Rattle.round_bit.specs.Arithmetic.{added, sum_word, multiplied, product_word}
 use Rattle.round_bit.proofs.Laws.Added.{added_bit, added_size}
 use Rattle.round_bit.proofs.Laws.Multiplied.{multiplied_bit, multiplied_size}

@@ -11,7 +11,7 @@ use Rattle.integers.specs.Lists.{first_bad, all}
 use Rattle.words.specs.Refusals.{format_check, word_check}
 use Rattle.words.specs.RoundBit.{round_bit_check}
 use Rattle.words.specs.Flat.{Flat, flat, laid_flat, same_flat, refused}
-use Rattle.words.specs.declared.RoundBitWord.{RoundBitWord}
+use Rattle.words.specs.Kinds.{RoundBitWord}
 use Rattle.round_bit.specs.Cuts.{cut_by}
 use Rattle.round_bit.specs.Arithmetic.{sum_word, magnitude_product, multiplied, product_word}
 use Rattle.filter_bank.specs.Bank.{added_to, output_word, words_check, any_differ, output_of}

@@ -2,10 +2,10 @@
 -- window a list of samples. The code's types give a bank four rows, a row eight taps and a window
 -- eight samples; of lists of other lengths nothing here is meant.
 use Rattle.std.specs.Prelude.{ℕ, Bool, false, ◌||◌, List, [], ◌∷◌, ltb, get_or, ℤ, pos, ◌+ℤ◌}
-use Rattle.words.specs.declared.Outcome.{Outcome}
-use Rattle.words.specs.declared.Outcome.TheVariants.{Done}
+use Rattle.words.specs.Outcomes.{Outcome}
+use Rattle.words.specs.Outcomes.{Done}
 use Rattle.words.specs.declared.Format.{Format}
-use Rattle.words.specs.declared.RoundBitWord.{RoundBitWord}
+use Rattle.words.specs.Kinds.{RoundBitWord}
 use Rattle.words.specs.Words.{bad_unit}
 use Rattle.words.specs.Refusals.{refuse, ◌or_else◌, differ}
 use Rattle.words.specs.Formats.{format}

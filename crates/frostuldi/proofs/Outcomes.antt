@@ -1,5 +1,6 @@
 -- The outcome that a refusal's number stands for. Assumes nothing.
 -- Proved here: `outcome_back`, `done_zero`.
+use Rattle.std.specs.Prelude.{Ok, Err}
 use Prim.Native.Nat.{ℕ, zero, suc, ◌-◌}
 use native.Mathlib.Omega.{arith}
 use mathlib.Core.Path.{◌≡◌, refl, sym, ap, ◌∙◌}
@@ -12,8 +13,8 @@ outcome_in zero = Done
 outcome_in (suc n) = Refused (found Width (row (suc n)))
 
 pub outcome_back : (o : Outcome) → outcome_in (number_of o) ≡ o
-outcome_back Done = refl
-outcome_back (Refused c) =
+outcome_back (Ok tt) = refl
+outcome_back (Err c) =
     let above : cause_number c ≡ suc (cause_number c - 1) = omega (arith, cause_some c) in
     ap outcome_in above
     ∙ ap (λ (n : ℕ). Refused (found Width (row n))) (sym above)

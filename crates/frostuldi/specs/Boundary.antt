@@ -2,10 +2,10 @@
 -- in the table of refusals, 0 for done.
 use Rattle.std.specs.Prelude.{map}
 use Rattle.std.specs.Prelude.{ℕ, List}
-use Rattle.words.specs.declared.Outcome.{Outcome}
-use Rattle.words.specs.declared.PlainWord.{PlainWord}
-use Rattle.words.specs.declared.RoundBitWord.{RoundBitWord}
-use Rattle.words.specs.declared.HalfUnitWord.{HalfUnitWord}
+use Rattle.words.specs.Outcomes.{Outcome}
+use Rattle.words.specs.Kinds.{PlainWord}
+use Rattle.words.specs.Kinds.{RoundBitWord}
+use Rattle.words.specs.Kinds.{HalfUnitWord}
 use Rattle.words.specs.declared.WriteAnswer.{WriteAnswer}
 use Rattle.words.specs.Refusals.{number_of}
 use Rattle.words.specs.Formats.{format}

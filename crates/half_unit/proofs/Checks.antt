@@ -9,10 +9,10 @@ use mir.Facts.{to_z-of_z}
 use Rattle.words.specs.Formats.{narrower, wider, answer_check}
 use Rattle.words.specs.RoundBit.{round_bit_check}
 use Rattle.words.specs.HalfUnit.{half_unit_word, half_unit_check}
-use Rattle.words.specs.declared.Outcome.TheVariants.{Done}
+use Rattle.words.specs.Outcomes.{Done}
 use Rattle.words.specs.declared.Format.{Format}
-use Rattle.words.specs.declared.RoundBitWord.{RoundBitWord}
-use Rattle.words.specs.declared.HalfUnitWord.{HalfUnitWord}
+use Rattle.words.specs.Kinds.{RoundBitWord}
+use Rattle.words.specs.Kinds.{HalfUnitWord}
 use Rattle.words.proofs.Laws.{both_passed, three_passed}
 use Rattle.half_unit.specs.Conversions.{to_plain_check, from_round_bit_check}
 use Rattle.half_unit.specs.Arithmetic.{sum_check, product_format, product_check}

@@ -5,10 +5,10 @@ use mathlib.Core.Path.{◌≡◌, sym, ap}
 use mathlib.Core.List.{List}
 use Rattle.words.specs.Moves.{Move, cut, sign_change, depths, turns, is_odd, Provided}
 use Rattle.words.specs.HalfUnit.{half_unit_check}
-use Rattle.words.specs.declared.Outcome.{Outcome}
-use Rattle.words.specs.declared.Outcome.TheVariants.{Done}
-use Rattle.words.specs.declared.HalfUnitWord.{HalfUnitWord}
-use Rattle.words.specs.declared.HalfUnitAnswer.{HalfUnitAnswer}
+use Rattle.words.specs.Outcomes.{Outcome}
+use Rattle.words.specs.Outcomes.{Done}
+use Rattle.words.specs.Kinds.{HalfUnitWord}
+use Rattle.words.specs.Kinds.{HalfUnitAnswer}
 use Rattle.words.proofs.MoveLinks.{Made, moves_of, reached, MoveLinks, links_claimed, links_alike}
 use Rattle.half_unit.specs.declared.CutAnswer.{CutAnswer}
 use Rattle.half_unit.specs.Moves.{moved, Claimed}

@@ -13,8 +13,8 @@ use Rattle.words.specs.Formats.{format, narrower_check}
 use Rattle.words.specs.HalfUnit.{half_unit_word, half_unit_value, half_unit_check}
 use Rattle.words.specs.Flat.{Flat, flat, laid_flat, half_unit_at as at, done, refused}
 use Rattle.words.specs.Moves.{cut, sign_change, ran_by, depths, turns, is_odd, half_its_unit, far_from}
-use Rattle.words.specs.declared.Outcome.{Outcome}
-use Rattle.words.specs.declared.HalfUnitWord.{HalfUnitWord}
+use Rattle.words.specs.Outcomes.{Outcome}
+use Rattle.words.specs.Kinds.{HalfUnitWord}
 use Rattle.words.proofs.Runs.{Run, run, ends_in, all_runs}
 use Rattle.half_unit.specs.Cuts.{sign_change_word, cut_word}
 use Rattle.half_unit.specs.Moves.{moved, ran}

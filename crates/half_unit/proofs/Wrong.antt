@@ -15,9 +15,9 @@ use Rattle.words.specs.RoundBit.{round_bit_check}
 use Rattle.words.specs.HalfUnit.{half_unit_check, half_unit_fitted}
 use Rattle.words.specs.Flat.{Flat, flat, laid_flat, flat_plain, flat_round_bit, flat_half_unit, same_flat, plain_at, round_bit_at, half_unit_at as at, done}
 use Rattle.words.specs.Flat.{refused}
-use Rattle.words.specs.declared.PlainWord.{PlainWord}
-use Rattle.words.specs.declared.RoundBitWord.{RoundBitWord}
-use Rattle.words.specs.declared.HalfUnitWord.{HalfUnitWord}
+use Rattle.words.specs.Kinds.{PlainWord}
+use Rattle.words.specs.Kinds.{RoundBitWord}
+use Rattle.words.specs.Kinds.{HalfUnitWord}
 use Rattle.half_unit.specs.Cuts.{sign_change_word, sign_change_of, cut_word, cut_of}
 use Rattle.half_unit.specs.Conversions.{from_plain_up_word, from_plain_up_of, even_floor, from_plain_even_word, from_plain_even_of}
 use Rattle.half_unit.specs.Conversions.{to_plain_word, to_plain_of, to_round_bit_word, to_round_bit_of, from_round_bit_word, from_round_bit_of}

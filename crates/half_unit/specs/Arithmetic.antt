@@ -1,10 +1,10 @@
 -- Document 01, "Half-unit words": the two sums, and product.
 use Rattle.std.specs.Prelude.{◌+◌, ℤ, pos, ◌+ℤ◌, ◌-ℤ◌, ◌*ℤ◌}
 use Rattle.integers.specs.Names.{floor_by, cleared}
-use Rattle.words.specs.declared.Outcome.{Outcome}
+use Rattle.words.specs.Outcomes.{Outcome}
 use Rattle.words.specs.declared.Format.{Format}
-use Rattle.words.specs.declared.HalfUnitWord.{HalfUnitWord}
-use Rattle.words.specs.declared.HalfUnitAnswer.{HalfUnitAnswer}
+use Rattle.words.specs.Kinds.{HalfUnitWord}
+use Rattle.words.specs.Kinds.{HalfUnitAnswer}
 use Rattle.words.specs.Refusals.{refuse, ◌or_else◌, differ}
 use Rattle.words.specs.Formats.{format, units_multiplied, answer_check}
 use Rattle.words.specs.HalfUnit.{half_unit_word, half_unit_check, half_unit_done, half_unit_fitted}

@@ -1,13 +1,13 @@
 -- Document 01, "Half-unit words": from and to plain, from and to round-bit.
 use Rattle.std.specs.Prelude.{ℕ, ◌+◌, cond, eqb, ℤ, pos, ◌+ℤ◌, ◌*ℤ◌}
 use Rattle.integers.specs.Names.{floor_by, any_below, cleared}
-use Rattle.words.specs.declared.Outcome.{Outcome}
-use Rattle.words.specs.declared.PlainWord.{PlainWord}
-use Rattle.words.specs.declared.PlainAnswer.{PlainAnswer}
-use Rattle.words.specs.declared.RoundBitWord.{RoundBitWord}
-use Rattle.words.specs.declared.RoundBitAnswer.{RoundBitAnswer}
-use Rattle.words.specs.declared.HalfUnitWord.{HalfUnitWord}
-use Rattle.words.specs.declared.HalfUnitAnswer.{HalfUnitAnswer}
+use Rattle.words.specs.Outcomes.{Outcome}
+use Rattle.words.specs.Kinds.{PlainWord}
+use Rattle.words.specs.Kinds.{PlainAnswer}
+use Rattle.words.specs.Kinds.{RoundBitWord}
+use Rattle.words.specs.Kinds.{RoundBitAnswer}
+use Rattle.words.specs.Kinds.{HalfUnitWord}
+use Rattle.words.specs.Kinds.{HalfUnitAnswer}
 use Rattle.words.specs.Refusals.{◌or_else◌}
 use Rattle.words.specs.Formats.{narrower, narrower_check, wider, answer_check}
 use Rattle.words.specs.Plain.{plain_word, plain_check, plain_done, ◌and_then◌ as ◌and_then_plain◌}

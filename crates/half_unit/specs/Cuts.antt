@@ -1,9 +1,9 @@
 -- Document 01, "Half-unit words": sign change and cut.
 use Rattle.std.specs.Prelude.{ℕ}
 use Rattle.integers.specs.Names.{turned, floor_by}
-use Rattle.words.specs.declared.Outcome.{Outcome}
-use Rattle.words.specs.declared.HalfUnitWord.{HalfUnitWord}
-use Rattle.words.specs.declared.HalfUnitAnswer.{HalfUnitAnswer}
+use Rattle.words.specs.Outcomes.{Outcome}
+use Rattle.words.specs.Kinds.{HalfUnitWord}
+use Rattle.words.specs.Kinds.{HalfUnitAnswer}
 use Rattle.words.specs.Refusals.{◌or_else◌}
 use Rattle.words.specs.Formats.{narrower, narrower_check}
 use Rattle.words.specs.HalfUnit.{half_unit_word, half_unit_check, half_unit_done, ◌and_then◌}

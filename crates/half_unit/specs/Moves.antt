@@ -1,8 +1,8 @@
 -- Document 02, Ask 8, "Cuts and sign changes mixed", of half-unit words. What a run is, and what is
 -- claimed of its end, stands once for both kinds of word, in specs/Moves.antt of `words`.
 use Rattle.std.specs.Prelude.{ℕ, ◌≡◌, List}
-use Rattle.words.specs.declared.Outcome.TheVariants.{Done}
-use Rattle.words.specs.declared.HalfUnitWord.{HalfUnitWord}
+use Rattle.words.specs.Outcomes.{Done}
+use Rattle.words.specs.Kinds.{HalfUnitWord}
 use Rattle.words.specs.HalfUnit.{half_unit_value, half_unit_check}
 use Rattle.words.specs.Moves.{Move, cut, sign_change, Moved, ran_by, Closer, ClaimedBy}
 use Rattle.half_unit.specs.Cuts.{sign_change_of, cut_of}

@@ -1,7 +1,7 @@
 -- What a run of the program leaves on its output, by how it ended.
 use Rattle.std.specs.Prelude.{◌≡◌, ◌≢◌, ◌<◌, ◌+◌, ℕ, Option, List, length, take}
 use Rattle.std.specs.Io.KnownBytes.{Appends, Keeps}
-use Rattle.words.specs.declared.Outcome.TheVariants.{Done}
+use Rattle.words.specs.Outcomes.{Done}
 use Rattle.block_file.specs.Layout.{longest_file}
 use Rattle.listing_text.specs.Listing.{listing, list_check}
 use Rattle.listing.specs.declared.whole_io.End.TheVariants.{Whole, Stuck}

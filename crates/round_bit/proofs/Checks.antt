@@ -1,6 +1,7 @@
 -- What a done answer and a passed check of each operation tell, and the definitions by depth at a depth that is not 0. Assumes nothing.
 -- Proved here: `word_done`, `word_outcome`, `cut_passed`, `widen_passed`, `sum_passed`, `product_passed`, `cut_made`, `rest_made`, `cut_bit`,
 -- `rest_bit`.
+use Rattle.std.specs.Prelude.{Ok, Err}
 use Prim.Native.Nat.{ℕ, zero, suc, ◌-◌}
 use native.Mathlib.Omega.{arith}
 use mathlib.Core.Path.{◌≡◌, refl}
@@ -12,10 +13,10 @@ use Rattle.integers.specs.Numbers.{floor_by, low_digits}
 use Rattle.integers.proofs.Floor.{floor_none}
 use Rattle.words.specs.Formats.{narrower, narrower_check, wider, answer_check}
 use Rattle.words.specs.RoundBit.{round_bit_word, round_bit_check, round_bit_refused, round_bit_done, ◌and_then◌}
-use Rattle.words.specs.declared.Outcome.{Outcome}
-use Rattle.words.specs.declared.Outcome.TheVariants.{Done, Refused}
+use Rattle.words.specs.Outcomes.{Outcome}
+use Rattle.words.specs.Outcomes.{Done, Refused}
 use Rattle.words.specs.declared.Format.{Format}
-use Rattle.words.specs.declared.RoundBitWord.{RoundBitWord}
+use Rattle.words.specs.Kinds.{RoundBitWord}
 use Rattle.words.proofs.Laws.{refused_not_done, both_passed, three_passed}
 use Rattle.words.proofs.Formats.{narrower_none}
 use Rattle.words.proofs.Operands.{outcome_kept}
@@ -24,8 +25,8 @@ use Rattle.round_bit.specs.Arithmetic.{sum_check, product_format, product_check}
 
 -- a done answer passed its check, and has the word that it was made with
 pub word_done : (o : Outcome) (w : RoundBitWord) → (o and_then round_bit_done w).outcome ≡ Done → (o ≡ Done) × ((o and_then round_bit_done w).word ≡ w)
-word_done Done w e = (refl, refl)
-word_done (Refused c) w e = absurd (refused_not_done e)
+word_done (Ok tt) w e = (refl, refl)
+word_done (Err c) w e = absurd (refused_not_done e)
 
 pub word_outcome : (o : Outcome) (w : RoundBitWord) → (o and_then round_bit_done w).outcome ≡ o
 word_outcome o w = outcome_kept round_bit_refused (λ a. a.outcome) (λ c. refl) o (round_bit_done w) refl

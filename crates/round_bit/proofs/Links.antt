@@ -5,10 +5,10 @@ use mathlib.Core.Path.{◌≡◌, sym, ap}
 use mathlib.Core.List.{List}
 use Rattle.words.specs.Moves.{Move, cut, sign_change, depths, turns, is_odd, Provided}
 use Rattle.words.specs.RoundBit.{round_bit_check}
-use Rattle.words.specs.declared.Outcome.{Outcome}
-use Rattle.words.specs.declared.Outcome.TheVariants.{Done}
-use Rattle.words.specs.declared.RoundBitWord.{RoundBitWord}
-use Rattle.words.specs.declared.RoundBitAnswer.{RoundBitAnswer}
+use Rattle.words.specs.Outcomes.{Outcome}
+use Rattle.words.specs.Outcomes.{Done}
+use Rattle.words.specs.Kinds.{RoundBitWord}
+use Rattle.words.specs.Kinds.{RoundBitAnswer}
 use Rattle.words.proofs.MoveLinks.{Made, moves_of, reached, MoveLinks, links_claimed, links_alike}
 use Rattle.round_bit.specs.declared.CutAnswer.{CutAnswer}
 use Rattle.round_bit.specs.Moves.{moved, Claimed}

@@ -9,9 +9,9 @@ use lib.IntN.{ℤ, pos, negsuc, ◌+ℤ◌, ◌*ℤ◌}
 use lib.Signed.{mag, ◌≤ℤ◌}
 use lib.Pow.{pow-add, pow_mono}
 use Rattle.integers.proofs.Kit.{ints}
-use Rattle.words.specs.declared.Outcome.TheVariants.{Done}
+use Rattle.words.specs.Outcomes.{Done}
 use Rattle.words.specs.declared.RoundBit.{RoundBit}
-use Rattle.words.specs.declared.RoundBitWord.{RoundBitWord}
+use Rattle.words.specs.Kinds.{RoundBitWord}
 use Rattle.words.proofs.Laws.{round_bit_right}
 use Rattle.words.proofs.Formats.{answer_right}
 use Rattle.round_bit.specs.Arithmetic.{magnitude_product, negative, magnitude, product_format, product_check}

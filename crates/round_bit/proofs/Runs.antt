@@ -16,9 +16,9 @@ use Rattle.words.specs.RoundBit.{round_bit_word, round_bit_value, round_bit_chec
 use Rattle.words.specs.Flat.{Flat, flat, laid_flat, same_flat, round_bit_at as at, done, refused}
 use Rattle.words.specs.Moves.{Move, cut, sign_change, ran_by, depths, turns, is_odd, half_its_unit, far_from, Closer, ClaimedBy}
 use Rattle.words.specs.declared.Format.{Format}
-use Rattle.words.specs.declared.Outcome.{Outcome}
-use Rattle.words.specs.declared.Outcome.TheVariants.{Done}
-use Rattle.words.specs.declared.RoundBitWord.{RoundBitWord}
+use Rattle.words.specs.Outcomes.{Outcome}
+use Rattle.words.specs.Outcomes.{Done}
+use Rattle.words.specs.Kinds.{RoundBitWord}
 use Rattle.words.proofs.Moves.{move_done}
 use Rattle.words.proofs.Runs.{Run, run, ends_in, all_runs}
 use Rattle.round_bit.specs.declared.EvenCutAnswer.{EvenCutAnswer}

@@ -13,8 +13,8 @@ use Rattle.words.specs.Formats.{narrower_check, answer_check}
 use Rattle.words.specs.Plain.{plain_check, plain_fitted}
 use Rattle.words.specs.RoundBit.{round_bit_check, round_bit_fitted}
 use Rattle.words.specs.Flat.{Flat, flat, laid_flat, flat_plain, flat_round_bit, same_flat, plain_at, round_bit_at as at, done, refused}
-use Rattle.words.specs.declared.PlainWord.{PlainWord}
-use Rattle.words.specs.declared.RoundBitWord.{RoundBitWord}
+use Rattle.words.specs.Kinds.{PlainWord}
+use Rattle.words.specs.Kinds.{RoundBitWord}
 use Rattle.round_bit.specs.Cuts.{sign_change_word, sign_change_of, cut_by, cut_of, rest_word, rest_of, even_round_bit, even_cut_of, widen_word, widen_of}
 use Rattle.round_bit.specs.Arithmetic.{sum_word, sum_of, difference_of, magnitude_product, multiplied}
 use Rattle.round_bit.specs.Arithmetic.{product_word, product_of, to_plain_word, to_plain_of, from_plain_word, from_plain_of}

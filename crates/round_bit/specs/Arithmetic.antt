@@ -1,13 +1,13 @@
 -- Document 01, "Round-bit words": sum and difference, product, to plain and from plain.
 use Rattle.std.specs.Prelude.{◌+◌, ◌-◌, Bool, true, false, bit_and, bit_or, pos, ◌+ℤ◌, ◌*ℤ◌}
 use Rattle.integers.specs.Names.{exactly_one, lt_z}
-use Rattle.words.specs.declared.Outcome.{Outcome}
+use Rattle.words.specs.Outcomes.{Outcome}
 use Rattle.words.specs.declared.Format.{Format}
-use Rattle.words.specs.declared.PlainWord.{PlainWord}
-use Rattle.words.specs.declared.PlainAnswer.{PlainAnswer}
+use Rattle.words.specs.Kinds.{PlainWord}
+use Rattle.words.specs.Kinds.{PlainAnswer}
 use Rattle.words.specs.declared.RoundBit.{RoundBit}
-use Rattle.words.specs.declared.RoundBitWord.{RoundBitWord}
-use Rattle.words.specs.declared.RoundBitAnswer.{RoundBitAnswer}
+use Rattle.words.specs.Kinds.{RoundBitWord}
+use Rattle.words.specs.Kinds.{RoundBitAnswer}
 use Rattle.words.specs.Refusals.{refuse, ◌or_else◌, differ}
 use Rattle.words.specs.Formats.{format, units_multiplied, answer_check}
 use Rattle.words.specs.Plain.{plain_word, plain_check, plain_fitted, ◌and_then◌ as ◌and_then_plain◌}

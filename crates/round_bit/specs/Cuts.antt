@@ -2,10 +2,10 @@
 -- document 02), widening on the right.
 use Rattle.std.specs.Prelude.{ℕ, zero, suc, ◌-◌, ◌*◌, ◌^◌, Bool, cond, ℤ, pos, ◌+ℤ◌, ◌*ℤ◌}
 use Rattle.integers.specs.Names.{eq_z, turned, floor_by, lowest, digit, low_digits}
-use Rattle.words.specs.declared.Outcome.{Outcome}
+use Rattle.words.specs.Outcomes.{Outcome}
 use Rattle.words.specs.declared.RoundBit.{RoundBit}
-use Rattle.words.specs.declared.RoundBitWord.{RoundBitWord}
-use Rattle.words.specs.declared.RoundBitAnswer.{RoundBitAnswer}
+use Rattle.words.specs.Kinds.{RoundBitWord}
+use Rattle.words.specs.Kinds.{RoundBitAnswer}
 use Rattle.words.specs.Refusals.{◌or_else◌}
 use Rattle.words.specs.Formats.{narrower, narrower_check, wider, answer_check}
 use Rattle.words.specs.RoundBit.{round_bit_word, round_bit_check, round_bit_done, ◌and_then◌}

@@ -1,8 +1,8 @@
 -- Document 02, Ask 8, "Cuts and sign changes mixed", of round-bit words. What a run is, and what is
 -- claimed of its end, stands once for both kinds of word, in specs/Moves.antt of `words`.
 use Rattle.std.specs.Prelude.{ℕ, suc, ◌+◌, ◌≡◌, List}
-use Rattle.words.specs.declared.Outcome.TheVariants.{Done}
-use Rattle.words.specs.declared.RoundBitWord.{RoundBitWord}
+use Rattle.words.specs.Outcomes.{Done}
+use Rattle.words.specs.Kinds.{RoundBitWord}
 use Rattle.words.specs.RoundBit.{round_bit_value, round_bit_check}
 use Rattle.words.specs.Moves.{Move, cut, sign_change, Moved, ran_by, Within, ClaimedBy}
 use Rattle.round_bit.specs.Cuts.{sign_change_of, cut_of, even_cut_of}

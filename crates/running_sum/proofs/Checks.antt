@@ -10,7 +10,7 @@ use Rattle.words.specs.Refusals.{refuse_for}
 use Rattle.words.specs.Formats.{narrower_check}
 use Rattle.words.specs.declared.Cause.{Cause}
 use Rattle.words.specs.declared.Cause.TheVariants.{Depth}
-use Rattle.words.specs.declared.Outcome.TheVariants.{Done, Refused}
+use Rattle.words.specs.Outcomes.{Done, Refused}
 use Rattle.words.specs.declared.Format.{Format}
 use Rattle.words.proofs.Laws.{refused_not_done}
 use Rattle.round_bit.specs.Cuts.{cut_and_rest_of}

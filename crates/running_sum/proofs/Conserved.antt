@@ -1,6 +1,7 @@
 -- Why nothing creeps: one call of a running sum, and any list of calls. Assumes nothing.
 -- Proved here: `step_outcome`, `refused_unchanged`, `nothing_value`, `sum_tells`, `step_conserves`, `step_format`, `put_blank`, `hand_out_small`,
 -- `empty_nothing`, `step_keeps`, `shut_step`.
+use Rattle.std.specs.Prelude.{Ok, Err}
 use Prim.Native.Nat.{ℕ, ◌^◌, ◌≤◌}
 use mathlib.Core.Path.{◌≡◌, refl, sym, ap, ◌∙◌}
 use lib.IntN.{ℤ, pos, nat_abs, ◌+ℤ◌, ◌-ℤ◌, ◌*ℤ◌, +ℤ_idr, +ℤ_idl}
@@ -11,8 +12,8 @@ use Rattle.words.specs.RoundBit.{round_bit_value, round_bit_check}
 use Rattle.words.specs.declared.Cause.{Cause, TheVariants.{Mismatch}}
 use Rattle.words.specs.declared.Format.{Format}
 use Rattle.words.specs.declared.Outcome.{Outcome, TheVariants.{Done, Refused}}
-use Rattle.words.specs.declared.RoundBitWord.{RoundBitWord}
-use Rattle.words.specs.declared.RoundBitAnswer.{RoundBitAnswer}
+use Rattle.words.specs.Kinds.{RoundBitWord}
+use Rattle.words.specs.Kinds.{RoundBitAnswer}
 use Rattle.words.proofs.Laws.{refused_not_done, both_passed, three_passed, passed, round_bit_right, round_bit_passes}
 use Rattle.words.proofs.Operands.{same_format}
 use Rattle.words.proofs.Rights.{nothing_right}
@@ -30,24 +31,24 @@ use Rattle.running_sum.specs.Totals.{amount, taken_in, given_out}
 by_outcome : (Q : Step → Type 0) (o : Outcome) (w : RoundBitWord) (new old : RunningSum) → (o ≡ Done → Q (record { outcome = Done; word = w; sum = new })) →
     ((c : Cause) → Q (record { outcome = Refused c; word = blank; sum = old })) → Q (stepped o w new old)
 unfolding stepped
-by_outcome Q Done w new old f g = f refl
-by_outcome Q (Refused c) w new old f g = g c
+by_outcome Q (Ok tt) w new old f g = f refl
+by_outcome Q (Err c) w new old f g = g c
 
 refused_step : (o : Outcome) (w : RoundBitWord) (new old : RunningSum) (r : Cause) → (stepped o w new old).outcome ≡ Refused r →
     ((stepped o w new old).sum ≡ old) × ((stepped o w new old).word ≡ blank)
 unfolding stepped
-refused_step Done w new old r e = absurd (refused_not_done (sym e))
-refused_step (Refused c) w new old r e = (refl, refl)
+refused_step (Ok tt) w new old r e = absurd (refused_not_done (sym e))
+refused_step (Err c) w new old r e = (refl, refl)
 
 pub step_outcome : (o : Outcome) (w : RoundBitWord) (new old : RunningSum) → (stepped o w new old).outcome ≡ o
 unfolding stepped
-step_outcome Done w new old = refl
-step_outcome (Refused c) w new old = refl
+step_outcome (Ok tt) w new old = refl
+step_outcome (Err c) w new old = refl
 
 done_step : (o : Outcome) (w : RoundBitWord) (new old : RunningSum) → (stepped o w new old).outcome ≡ Done → (o ≡ Done) × ((stepped o w new old).sum ≡ new)
 unfolding stepped
-done_step Done w new old e = (refl, refl)
-done_step (Refused c) w new old e = absurd (refused_not_done e)
+done_step (Ok tt) w new old e = (refl, refl)
+done_step (Err c) w new old e = absurd (refused_not_done e)
 
 -- ---- 0. a refused call leaves the sum as it was and hands back the blank word, of any sum at all
 pub refused_unchanged : (s : RunningSum) (c : Call) (r : Cause) → (step_of s c).outcome ≡ Refused r → ((step_of s c).sum ≡ s) × ((step_of s c).word ≡ blank)
@@ -196,5 +197,5 @@ pub shut_step : (c : Call) → ((step_of shut c).outcome ≡ Done → ⊥) × ((
 shut_step c = (shut_outcome c, stays (step_of shut c).outcome refl)
   where
     stays : (o : Outcome) → (step_of shut c).outcome ≡ o → (step_of shut c).sum ≡ shut
-    stays Done e = absurd (shut_outcome c e)
-    stays (Refused r) e = (refused_unchanged shut c r e).0
+    stays (Ok tt) e = absurd (shut_outcome c e)
+    stays (Err r) e = (refused_unchanged shut c r e).0

@@ -3,6 +3,7 @@
 -- ones among them. The totals are in specs/Totals.antt and know nothing of what is kept. Values are in half units of the sum's unit, so
 -- half a coarse unit is 2 ^ depth. Assumes nothing.
 -- Proved here: `totals`, `unchanged`, `never_refused`, `always_refused`, `kept_small`, `totals_near`, `totals_equal`, `demand_3`.
+use Rattle.std.specs.Prelude.{Ok, Err}
 use Prim.Native.Nat.{ℕ, ◌^◌, ◌≤◌}
 use mathlib.Core.Path.{◌≡◌, refl, sym, ap, ◌∙◌, subst}
 use mathlib.Core.List.{List, [], ◌∷◌, ◌++◌}
@@ -13,8 +14,8 @@ use Rattle.words.specs.Refusals.{format_check}
 use Rattle.words.specs.Formats.{format}
 use Rattle.words.specs.RoundBit.{round_bit_value}
 use Rattle.words.specs.declared.Format.{Format}
-use Rattle.words.specs.declared.Outcome.{Outcome}
-use Rattle.words.specs.declared.Outcome.TheVariants.{Done, Refused}
+use Rattle.words.specs.Outcomes.{Outcome}
+use Rattle.words.specs.Outcomes.{Done, Refused}
 use Rattle.words.proofs.Laws.{both_passed, right_format, round_bit_passes}
 use Rattle.words.proofs.Rights.{nothing_right}
 use Rattle.running_sum.specs.declared.RunningSum.{RunningSum}
@@ -76,8 +77,8 @@ left_shut (c ∷ cs) = ap (λ (s : RunningSum). left s cs) (shut_step c).1 ∙ l
 -- ---- what an opening gives
 opened_value : (o : Outcome) (f : Format) (d : ℕ) → round_bit_value (open_answer o f d).sum.kept ≡ pos 0
 unfolding open_answer value
-opened_value Done f d = refl
-opened_value (Refused c) f d = refl
+opened_value (Ok tt) f d = refl
+opened_value (Err c) f d = refl
 
 opened_passes : (f : Format) (d : ℕ) → open_check f d ≡ Done → running_sum_check (open_answer Done f d).sum ≡ Done
 unfolding open_answer
@@ -87,16 +88,16 @@ opened_passes f d e =
 
 opened_outcome : (o : Outcome) (f : Format) (d : ℕ) → (open_answer o f d).outcome ≡ o
 unfolding open_answer
-opened_outcome Done f d = refl
-opened_outcome (Refused c) f d = refl
+opened_outcome (Ok tt) f d = refl
+opened_outcome (Err c) f d = refl
 
 refused_shut : (n : ℕ) (e : ℤ) (d : ℕ) → ((open_of n e d).outcome ≡ Done → ⊥) → (open_of n e d).sum ≡ shut
 unfolding open_of open_answer
 refused_shut n e d h = go (open_check (format n e) d) h
   where
     go : (o : Outcome) → ((open_answer o (format n e) d).outcome ≡ Done → ⊥) → (open_answer o (format n e) d).sum ≡ shut
-    go Done h = absurd (h refl)
-    go (Refused c) h = refl
+    go (Ok tt) h = absurd (h refl)
+    go (Err c) h = refl
 
 -- ---- the theorem, of the sum that an opening gave, done or refused, and of any calls on it
 module _ (n : ℕ) (e : ℤ) (d : ℕ) (cs : List Call) where

@@ -12,9 +12,9 @@ use Rattle.integers.proofs.Kit.{ints, plus_law, minus_law}
 use Rattle.integers.proofs.Chains.{chain_more}
 use Rattle.words.specs.RoundBit.{round_bit_value}
 use Rattle.words.specs.declared.Cause.{Cause}
-use Rattle.words.specs.declared.Outcome.{Outcome}
-use Rattle.words.specs.declared.Outcome.TheVariants.{Done, Refused}
-use Rattle.words.specs.declared.RoundBitWord.{RoundBitWord}
+use Rattle.words.specs.Outcomes.{Outcome}
+use Rattle.words.specs.Outcomes.{Done, Refused}
+use Rattle.words.specs.Kinds.{RoundBitWord}
 use Rattle.running_sum.specs.declared.RunningSum.{RunningSum}
 use Rattle.running_sum.specs.declared.OpenAnswer.{OpenAnswer}
 use Rattle.running_sum.specs.declared.PutAnswer.{PutAnswer}

@@ -13,8 +13,8 @@ use Rattle.words.specs.Refusals.{format_check, word_check}
 use Rattle.words.specs.Formats.{format, narrower_check}
 use Rattle.words.specs.RoundBit.{round_bit_word, round_bit_check, round_bit_fitted}
 use Rattle.words.specs.Flat.{Flat, flat, laid_flat, same_flat, round_bit_at, refused as no_word}
-use Rattle.words.specs.declared.Outcome.{Outcome}
-use Rattle.words.specs.declared.RoundBitWord.{RoundBitWord}
+use Rattle.words.specs.Outcomes.{Outcome}
+use Rattle.words.specs.Kinds.{RoundBitWord}
 use Rattle.round_bit.specs.Cuts.{cut_by, rest_word}
 use Rattle.round_bit.specs.Arithmetic.{sum_word}
 use Rattle.running_sum.specs.declared.RunningSum.{RunningSum}

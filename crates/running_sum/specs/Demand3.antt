@@ -1,7 +1,7 @@
 -- Demand 3 of the README, of the sum that an opening gave, done or refused, and of any calls on it.
 -- In half units of the sum, half a coarse unit is 2 ^ depth.
 use Rattle.std.specs.Prelude.{ℕ, ◌^◌, ◌≤◌, ◌≡◌, List, [], ◌∷◌, ◌++◌, ℤ, nat_abs, ◌+ℤ◌, ◌-ℤ◌}
-use Rattle.words.specs.declared.Outcome.TheVariants.{Done}
+use Rattle.words.specs.Outcomes.{Done}
 use Rattle.words.specs.RoundBit.{round_bit_value}
 use Rattle.running_sum.specs.declared.RunningSum.{RunningSum}
 use Rattle.running_sum.specs.Steps.{open_of, Call, hand_out, empty, step_of}

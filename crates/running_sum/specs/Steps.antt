@@ -1,9 +1,9 @@
 -- Document 01, "The running sum": opening, and one call on any running sum.
-use Rattle.std.specs.Prelude.{ℕ, ◌-◌, ◌||◌, eqb, ltb, ℤ, pos, ◌+ℤ◌}
-use Rattle.words.specs.declared.Outcome.{Outcome}
-use Rattle.words.specs.declared.Outcome.TheVariants.{Done, Refused}
+use Rattle.std.specs.Prelude.{Ok, Err, ℕ, ◌-◌, ◌||◌, eqb, ltb, ℤ, pos, ◌+ℤ◌}
+use Rattle.words.specs.Outcomes.{Outcome}
+use Rattle.words.specs.Outcomes.{Done, Refused}
 use Rattle.words.specs.declared.Format.{Format}
-use Rattle.words.specs.declared.RoundBitWord.{RoundBitWord}
+use Rattle.words.specs.Kinds.{RoundBitWord}
 use Rattle.words.specs.Words.{bad_unit}
 use Rattle.words.specs.Refusals.{refuse, ◌or_else◌, format_check, differ, blank_format}
 use Rattle.words.specs.Formats.{format}
@@ -40,8 +40,8 @@ open_check f d = format_check f or_else depth_check f d
 -- "it keeps a round-bit word of width N and unit e, at first (0,0)". Refused, "it then gives a sum
 -- that keeps the blank word at depth 0"
 unfoldable pub open_answer : Outcome → Format → ℕ → OpenAnswer
-open_answer Done f d = record { outcome = Done; sum = made (nothing f) d }
-open_answer (Refused c) f d = record { outcome = Refused c; sum = made blank 0 }
+open_answer (Ok tt) f d = record { outcome = Done; sum = made (nothing f) d }
+open_answer (Err c) f d = record { outcome = Refused c; sum = made blank 0 }
 
 unfoldable pub open_of : ℕ → ℤ → ℕ → OpenAnswer
 open_of n e d = open_answer (open_check (format n e) d) (format n e) d
@@ -66,8 +66,8 @@ keeping s w = record { kept = w; depth = s.depth }
 
 -- done, with a word and the new sum; or a refusal, with the blank word and the sum as it was
 unfoldable pub stepped : Outcome → RoundBitWord → RunningSum → RunningSum → Step
-stepped Done w new old = record { outcome = Done; word = w; sum = new }
-stepped (Refused c) w new old = record { outcome = Refused c; word = blank; sum = old }
+stepped (Ok tt) w new old = record { outcome = Done; word = w; sum = new }
+stepped (Err c) w new old = record { outcome = Refused c; word = blank; sum = old }
 
 -- the sum "is the first operand, refused by 1, 2, 3 for its kept word and by 5 and 7 for its depth"
 abbrev pub running_sum_check : RunningSum → Outcome

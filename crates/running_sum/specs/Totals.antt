@@ -1,9 +1,9 @@
 -- Demand 3: a list of calls on a running sum, and the two totals, from the calls, their answers and
 -- the sum's unit alone.
-use Rattle.std.specs.Prelude.{ℕ, ◌^◌, List, [], ◌∷◌, ℤ, pos, negsuc, ◌+ℤ◌, ◌-ℤ◌, ◌*ℤ◌}
-use Rattle.words.specs.declared.Outcome.{Outcome}
-use Rattle.words.specs.declared.Outcome.TheVariants.{Done, Refused}
-use Rattle.words.specs.declared.RoundBitWord.{RoundBitWord}
+use Rattle.std.specs.Prelude.{Ok, Err, ℕ, ◌^◌, List, [], ◌∷◌, ℤ, pos, negsuc, ◌+ℤ◌, ◌-ℤ◌, ◌*ℤ◌}
+use Rattle.words.specs.Outcomes.{Outcome}
+use Rattle.words.specs.Outcomes.{Done, Refused}
+use Rattle.words.specs.Kinds.{RoundBitWord}
 use Rattle.words.specs.RoundBit.{round_bit_value}
 use Rattle.running_sum.specs.declared.RunningSum.{RunningSum}
 use Rattle.running_sum.specs.Steps.{Call, put, hand_out, empty, step_of}
@@ -39,17 +39,17 @@ amount e w = round_bit_value w *ℤ pos (coarser (w.format.unit -ℤ e))
 -- what a call and its answer add to the words accepted, and to the words handed out; only done
 -- answers count
 unfoldable pub taken_in : ℤ → Call → Outcome → ℤ
-taken_in e (put w) Done = amount e w
-taken_in e (put w) (Refused c) = pos 0
+taken_in e (put w) (Ok tt) = amount e w
+taken_in e (put w) (Err c) = pos 0
 taken_in e hand_out o = pos 0
 taken_in e empty o = pos 0
 
 unfoldable pub given_out : ℤ → Call → Outcome → RoundBitWord → ℤ
 given_out e (put v) o w = pos 0
-given_out e hand_out Done w = amount e w
-given_out e hand_out (Refused c) w = pos 0
-given_out e empty Done w = amount e w
-given_out e empty (Refused c) w = pos 0
+given_out e hand_out (Ok tt) w = amount e w
+given_out e hand_out (Err c) w = pos 0
+given_out e empty (Ok tt) w = amount e w
+given_out e empty (Err c) w = pos 0
 
 unfoldable pub accepted : ℤ → List Answered → ℤ
 accepted e [] = pos 0

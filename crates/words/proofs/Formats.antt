@@ -1,9 +1,9 @@
 -- What the refusals 5, 6 and 7 tell of a format, and when they are not given. Assumes nothing.
--- Proved here: `unit_good`, `digits_left`, `narrower_right`, `narrower_done`, `answer_right`, `answer_done`, `answer_outcome`, `answer_format`,
+-- Proved here: `unit_good`, `digits_left`, `narrower_right`, `narrower_done`, `answer_right`, `answer_done`,
 -- `narrower_narrower`, `narrower_wider`, `narrower_none`, `narrower_passes`, `narrower_first`, `narrower_then`.
 use Prim.Native.Nat.{ℕ, ◌+◌, ◌-◌, ◌≤◌}
 use native.Mathlib.Omega.{arith}
-use mathlib.Core.Path.{◌≡◌, refl}
+use mathlib.Core.Path.{◌≡◌}
 use mathlib.Core.Bool.{false}
 use lib.Dec.{ltb}
 use lib.IntN.{ℤ, pos, neg_ℤ, ◌+ℤ◌, ◌-ℤ◌}
@@ -14,12 +14,11 @@ use Rattle.integers.proofs.Kit.{ints, plus_law, minus_law}
 use Rattle.integers.proofs.Width.{lies_true, lies_low, lies_high}
 use Rattle.words.specs.Words.{bad_unit}
 use Rattle.words.specs.Refusals.{refuse_for}
-use Rattle.words.specs.Formats.{narrower, narrower_check, wider, answer_check, format_answer}
+use Rattle.words.specs.Formats.{narrower, narrower_check, wider, answer_check}
 use Rattle.words.specs.declared.Cause.TheVariants.{Depth, WidthPast, UnitPast}
-use Rattle.words.specs.declared.Outcome.{Outcome}
-use Rattle.words.specs.declared.Outcome.TheVariants.{Done, Refused}
+use Rattle.words.specs.Outcomes.{Done}
 use Rattle.words.specs.declared.Format.{Format}
-use Rattle.words.proofs.Laws.{passed, both_passed, refused_not_done, RightFormat}
+use Rattle.words.proofs.Laws.{passed, both_passed, RightFormat}
 
 -- ---- a unit in its range, both ways
 unit_low : (e : ℤ) → bad_unit e ≡ false → neg_ℤ (pos 127) ≤ℤ e
@@ -72,17 +71,6 @@ answer_right f h e =
 pub answer_done : (f : Format) → RightFormat f → answer_check f ≡ Done
 unfolding answer_check
 answer_done f g = rw (le-ltb 63 f.width g.wide, unit_good f.unit g.fine g.coarse)
-
--- ---- a format's answer: its outcome, and where that is done the format
-pub answer_outcome : (o : Outcome) (f : Format) → (format_answer o f).outcome ≡ o
-unfolding format_answer
-answer_outcome Done f = refl
-answer_outcome (Refused c) f = refl
-
-pub answer_format : (o : Outcome) (f : Format) → o ≡ Done → (format_answer o f).format ≡ f
-unfolding format_answer
-answer_format Done f e = refl
-answer_format (Refused c) f e = absurd (refused_not_done e)
 
 -- ---- a cut's format: one depth after another is one depth, and widening goes back
 pub narrower_narrower : (f : Format) (a b : ℕ) → narrower (narrower f a) b ≡ narrower f (a + b)

@@ -1,6 +1,7 @@
 -- Document 02, Ask 8, of code: a link is a word, a move made on it, its outcome and the word that it answered. Any chain of links is the run of its
 -- moves by the definitions, so what is claimed of that holds of it, for every kind of word. Assumes nothing.
 -- Proved here: `links_ran`, `links_claimed`, `links_alike`.
+use Rattle.std.specs.Prelude.{Ok, Err}
 use Prim.Native.Nat.{ℕ}
 use mathlib.Core.Path.{◌≡◌, refl, sym, ap, ◌∙◌, subst}
 use mathlib.Core.List.{List, [], ◌∷◌, map}
@@ -9,8 +10,8 @@ use Rattle.integers.specs.Chains.{Chain, no_link, link}
 use Rattle.words.specs.Refusals.{◌or_else◌, after}
 use Rattle.words.specs.Moves.{Move, Moved, ran_by, depths, turns, is_odd, Provided, MixedBy, ClaimedBy}
 use Rattle.words.specs.declared.Format.{Format}
-use Rattle.words.specs.declared.Outcome.{Outcome}
-use Rattle.words.specs.declared.Outcome.TheVariants.{Done, Refused}
+use Rattle.words.specs.Outcomes.{Outcome}
+use Rattle.words.specs.Outcomes.{Done}
 use Rattle.words.proofs.Laws.{refused_not_done}
 
 -- a move and its outcome; the word that it answered is where the next link begins
@@ -46,8 +47,8 @@ alike_step {W} moved w v last m more o rest e r = rw e (go o)
     go : (o : Outcome) →
         let end : Moved W = after (λ c. record { outcome = o; word = v }) o (ran_by moved v more) in
         ((o or_else rest) ≡ end.outcome) × ((o or_else rest) ≡ Done → record { outcome = o or_else rest; word = last } ≡ end)
-    go Done = r
-    go (Refused c) = (refl, λ d. absurd (refused_not_done d))
+    go (Ok tt) = r
+    go (Err c) = (refl, λ d. absurd (refused_not_done d))
 
 module _ {W : Type 0} (moved : W → Move → Moved W) (Meets : W → Move → Outcome → W → Type 0)
     (meets : (w v : W) (m : Move) (o : Outcome) → Meets w m o v → moved w m ≡ record { outcome = o; word = v }) where

@@ -1,6 +1,7 @@
 -- Document 02, Ask 8: what a run of cuts and sign changes ends in, by induction over the moves, for every kind of word whose cut and sign change
 -- have the laws that are asked for here. Assumes nothing.
 -- Proved here: `provided_passes`, `passed_provided`, `step`, `steps_done`, `run_ends`, `run_provided`, `mixed`, `run_claimed`.
+use Rattle.std.specs.Prelude.{Ok, Err}
 use Prim.Native.Nat.{ℕ, suc, ◌+◌, ◌-◌, ◌^◌}
 use native.Mathlib.Omega.{arith}
 use mathlib.Core.Path.{◌≡◌, refl, sym, ap, ◌∙◌, subst}
@@ -12,8 +13,8 @@ use Rattle.words.specs.Refusals.{after}
 use Rattle.words.specs.Formats.{narrower, narrower_check}
 use Rattle.words.specs.Moves.{Move, cut, sign_change, Moved, ran_by, depths, turns, is_odd, at_once, Provided, apart_from_sign, MixedBy, ClaimedBy}
 use Rattle.words.specs.declared.Format.{Format}
-use Rattle.words.specs.declared.Outcome.{Outcome}
-use Rattle.words.specs.declared.Outcome.TheVariants.{Done, Refused}
+use Rattle.words.specs.Outcomes.{Outcome}
+use Rattle.words.specs.Outcomes.{Done}
 use Rattle.words.proofs.Laws.{RightFormat}
 use Rattle.words.proofs.Formats.{unit_good, narrower_right, narrower_none, narrower_passes, narrower_first, narrower_then, narrower_narrower}
 
@@ -75,8 +76,8 @@ module _ {W : Type 0} (moved : W → Move → Moved W) where
   steps_done w m more e = go (moved w m).outcome refl e
     where
       go : (o : Outcome) → (moved w m).outcome ≡ o → (after (λ c. moved w m) o (ran_by moved (moved w m).word more)).outcome ≡ Done → (moved w m).outcome ≡ Done
-      go Done p e = p
-      go (Refused c) p e = e
+      go (Ok tt) p e = p
+      go (Err c) p e = e
 
 module _ {W : Type 0} {moved : W → Move → Moved W} {value : W → ℤ} {format : W → Format} {Near : ℕ → ℕ → Type 0} {check : W → Outcome}
     {cut_word : W → ℕ → W} {sign_word : W → W} (l : MoveLaws moved value format Near check cut_word sign_word) where

@@ -1,6 +1,7 @@
 -- What the checks of two operands and the refusal 8 tell, and that a done answer passed its check, for every kind of word. Assumes nothing.
 -- Proved here: `same_format`, `format_same`, `both_right`, `right_both`, `fit_passed`, `fit_passes`, `done_passed`, `done_fits`, `outcome_kept`,
 -- `operands_right`, `right_operands`, `first`, `second`, `carry`, `two`, `all`, `sums`, `wider_right`.
+use Rattle.std.specs.Prelude.{Ok, Err}
 use Prim.Native.Nat.{ℕ, ◌-◌, ◌^◌, ◌<◌, ◌≤◌}
 use native.Mathlib.Omega.{arith}
 use mathlib.Core.Path.{◌≡◌, refl, sym, ◌∙◌}
@@ -19,8 +20,8 @@ use Rattle.words.specs.Refusals.{refuse, ◌or_else◌, word_check, differ, afte
 use Rattle.words.specs.Formats.{wider, answer_check}
 use Rattle.words.specs.declared.Cause.{Cause}
 use Rattle.words.specs.declared.Cause.TheVariants.{Mismatch, NumberPast}
-use Rattle.words.specs.declared.Outcome.{Outcome}
-use Rattle.words.specs.declared.Outcome.TheVariants.{Done, Refused}
+use Rattle.words.specs.Outcomes.{Outcome}
+use Rattle.words.specs.Outcomes.{Done, Refused}
 use Rattle.words.specs.declared.Format.{Format}
 use Rattle.words.proofs.Laws.{passed, both_passed, three_passed, both_pass, refused_not_done, RightFormat, Right, right, word_right, small, machine}
 use Rattle.words.proofs.Formats.{answer_right}
@@ -57,8 +58,8 @@ fit_passes f x h = rw (by_fits x f.width h)
 -- ---- a done answer of any kind passed its check; `refused` makes the refusals of the kind
 module _ {A : Type 0} (refused : Cause → A) (outcome : A → Outcome) (told : (c : Cause) → outcome (refused c) ≡ Refused c) where
   pub done_passed : (o : Outcome) (a : A) → outcome (after refused o a) ≡ Done → o ≡ Done
-  done_passed Done a e = refl
-  done_passed (Refused c) a e = absurd (refused_not_done (sym (told c) ∙ e))
+  done_passed (Ok tt) a e = refl
+  done_passed (Err c) a e = absurd (refused_not_done (sym (told c) ∙ e))
 
   -- and where 8 was asked last, its number fits
   pub done_fits : (o : Outcome) (f : Format) (x : ℤ) (a : A) → outcome (after refused o (after refused (refuse 8 (outside f x)) a)) ≡ Done →
@@ -69,8 +70,8 @@ module _ {A : Type 0} (refused : Cause → A) (outcome : A → Outcome) (told : 
 
   -- the outcome of an answer that is done after a check is the check's
   pub outcome_kept : (o : Outcome) (a : A) → outcome a ≡ Done → outcome (after refused o a) ≡ o
-  outcome_kept Done a e = e
-  outcome_kept (Refused c) a e = told c
+  outcome_kept (Ok tt) a e = e
+  outcome_kept (Err c) a e = told c
 
 -- ---- the check of two operands that must have one format, both ways
 pub operands_right : (f : Format) (x : ℤ) (r : ℕ) (g : Format) (y : ℤ) (s : ℕ) →

@@ -13,7 +13,7 @@ use Rattle.integers.proofs.LowDigits.{low_range}
 use Rattle.integers.proofs.Width.{widen_size}
 use Rattle.integers.proofs.Halves.{cleared_size, doubled_size}
 use Rattle.words.specs.Formats.{narrower, narrower_check, wider}
-use Rattle.words.specs.declared.Outcome.TheVariants.{Done}
+use Rattle.words.specs.Outcomes.{Done}
 use Rattle.words.specs.declared.Format.{Format}
 use Rattle.words.proofs.Laws.{RightFormat, Right}
 use Rattle.words.proofs.Formats.{digits_left, narrower_right}

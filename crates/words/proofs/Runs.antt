@@ -5,7 +5,7 @@ use lib.ListN.{length, get_or}
 use Rattle.integers.specs.Lists.{all}
 use Rattle.words.specs.Flat.{Flat, same_flat}
 use Rattle.words.specs.Moves.{Move, Moved, ran_by}
-use Rattle.words.specs.declared.Outcome.{Outcome}
+use Rattle.words.specs.Outcomes.{Outcome}
 
 -- a word, moves on it, and what they are to end in, or must not
 pub record Run (W : Type 0) : Type 0 where

@@ -7,14 +7,14 @@ use Rattle.words.specs.Formats.{format}
 use Rattle.words.specs.Plain.{plain_word}
 use Rattle.words.specs.RoundBit.{round_bit_word}
 use Rattle.words.specs.HalfUnit.{half_unit_word}
-use Rattle.words.specs.declared.Outcome.{Outcome}
+use Rattle.words.specs.Outcomes.{Outcome}
 use Rattle.words.specs.declared.Format.{Format}
-use Rattle.words.specs.declared.PlainWord.{PlainWord}
-use Rattle.words.specs.declared.RoundBitWord.{RoundBitWord}
-use Rattle.words.specs.declared.HalfUnitWord.{HalfUnitWord}
-use Rattle.words.specs.declared.PlainAnswer.{PlainAnswer}
-use Rattle.words.specs.declared.RoundBitAnswer.{RoundBitAnswer}
-use Rattle.words.specs.declared.HalfUnitAnswer.{HalfUnitAnswer}
+use Rattle.words.specs.Kinds.{PlainWord}
+use Rattle.words.specs.Kinds.{RoundBitWord}
+use Rattle.words.specs.Kinds.{HalfUnitWord}
+use Rattle.words.specs.Kinds.{PlainAnswer}
+use Rattle.words.specs.Kinds.{RoundBitAnswer}
+use Rattle.words.specs.Kinds.{HalfUnitAnswer}
 
 pub record Flat : Type 0 where
   pub refusal : ℕ

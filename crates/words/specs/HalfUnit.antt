@@ -1,11 +1,11 @@
 -- Half-unit words: "Half-unit word w: value w + 1/2 units .."
 use Rattle.std.specs.Prelude.{ℤ, pos}
 use Rattle.words.specs.declared.Cause.{Cause}
-use Rattle.words.specs.declared.Outcome.{Outcome}
-use Rattle.words.specs.declared.Outcome.TheVariants.{Done, Refused}
+use Rattle.words.specs.Outcomes.{Outcome}
+use Rattle.words.specs.Outcomes.{Done, Refused}
 use Rattle.words.specs.declared.Format.{Format}
-use Rattle.words.specs.declared.HalfUnitWord.{HalfUnitWord}
-use Rattle.words.specs.declared.HalfUnitAnswer.{HalfUnitAnswer}
+use Rattle.words.specs.Kinds.{HalfUnitWord}
+use Rattle.words.specs.Kinds.{HalfUnitAnswer}
 use Rattle.words.specs.Words.{value, outside}
 use Rattle.words.specs.Words.Kind.{half_unit}
 use Rattle.words.specs.Refusals.{refuse, word_check, blank_format, after}
@@ -18,7 +18,7 @@ abbrev pub half_unit_value : HalfUnitWord → ℤ
 half_unit_value w = value half_unit w.number.0 0
 
 -- the first of the causes 1, 2, 3
-unfoldable pub half_unit_check : HalfUnitWord → Outcome
+abbrev pub half_unit_check : HalfUnitWord → Outcome
 half_unit_check w = word_check w.format w.number.0 0
 
 -- the answer of a refusal: the blank word

@@ -1,5 +1,8 @@
+pub mod Outcomes
+pub mod Kinds
 pub mod Words
 pub mod Refusals
+pub mod Answers
 pub mod Formats
 pub mod Plain
 pub mod RoundBit

@@ -2,8 +2,8 @@
 use Rattle.std.specs.Prelude.{◌<◌}
 use Rattle.std.specs.Prelude.{ℕ, zero, suc, ◌+◌, ◌^◌, ◌≤◌, ◌≡◌, Bool, false, not, cond, List, []}
 use Rattle.std.specs.Prelude.{◌∷◌, ℤ, pos, neg_ℤ, nat_abs, ◌-ℤ◌, ◌*ℤ◌}
-use Rattle.words.specs.declared.Outcome.{Outcome}
-use Rattle.words.specs.declared.Outcome.TheVariants.{Done}
+use Rattle.words.specs.Outcomes.{Outcome}
+use Rattle.words.specs.Outcomes.{Done}
 use Rattle.words.specs.declared.Format.{Format}
 use Rattle.words.specs.Words.{least_width, bad_unit}
 use Rattle.words.specs.Refusals.{after}

@@ -1,11 +1,11 @@
 -- Plain words: "Plain word x: value x units (two's complement)."
 use Rattle.std.specs.Prelude.{ℤ, pos}
 use Rattle.words.specs.declared.Cause.{Cause}
-use Rattle.words.specs.declared.Outcome.{Outcome}
-use Rattle.words.specs.declared.Outcome.TheVariants.{Done, Refused}
+use Rattle.words.specs.Outcomes.{Outcome}
+use Rattle.words.specs.Outcomes.{Done, Refused}
 use Rattle.words.specs.declared.Format.{Format}
-use Rattle.words.specs.declared.PlainWord.{PlainWord}
-use Rattle.words.specs.declared.PlainAnswer.{PlainAnswer}
+use Rattle.words.specs.Kinds.{PlainWord}
+use Rattle.words.specs.Kinds.{PlainAnswer}
 use Rattle.words.specs.Words.{value, outside}
 use Rattle.words.specs.Words.Kind.{plain}
 use Rattle.words.specs.Refusals.{refuse, word_check, blank_format, after}
@@ -18,7 +18,7 @@ abbrev pub plain_value : PlainWord → ℤ
 plain_value w = value plain w.number.0 0
 
 -- the first of the causes 1, 2, 3
-unfoldable pub plain_check : PlainWord → Outcome
+abbrev pub plain_check : PlainWord → Outcome
 plain_check w = word_check w.format w.number.0 0
 
 -- the answer of a refusal: the blank word

@@ -1,14 +1,14 @@
 -- Document 01, "Refusal numbers": the table, with the rows that requests of document 02 added, and
 -- the rule for several causes.
-use Rattle.std.specs.Prelude.{ℕ, Bool, true, false, not, ◌&&◌, ◌||◌, List, [], ◌∷◌, eqb, ℤ, pos}
+use Rattle.std.specs.Prelude.{Result, Ok, Err, ℕ, Bool, true, false, not, ◌&&◌, ◌||◌, List, [], ◌∷◌, eqb, ℤ, pos}
 use Rattle.integers.specs.Names.{eq_z, at_front}
 use Rattle.words.specs.declared.Cause.{Cause}
 use Rattle.words.specs.declared.Cause.TheVariants.{Width, Unit, Number, Mismatch}
 use Rattle.words.specs.declared.Cause.TheVariants.{Depth, WidthPast, UnitPast, NumberPast}
 use Rattle.words.specs.declared.Cause.TheVariants.{DigitText, Buffer, Mark, Form}
 use Rattle.words.specs.declared.Cause.TheVariants.{Byte, Run, NotFinite, Channel}
-use Rattle.words.specs.declared.Outcome.{Outcome}
-use Rattle.words.specs.declared.Outcome.TheVariants.{Done, Refused}
+use Rattle.words.specs.Outcomes.{Outcome}
+use Rattle.words.specs.Outcomes.{Done, Refused}
 use Rattle.words.specs.declared.Format.{Format}
 use Rattle.words.specs.declared.WriteAnswer.{WriteAnswer}
 use Rattle.words.specs.Words.{bad_width, bad_unit, outside, bad_round_bit}
@@ -43,8 +43,8 @@ cause_number Channel = 17
 
 -- "Done is 0."
 abbrev pub number_of : Outcome → ℕ
-number_of Done = 0
-number_of (Refused c) = cause_number c
+number_of (Ok tt) = 0
+number_of (Err c) = cause_number c
 
 -- a cause, given exactly when its test holds
 abbrev pub refuse_for : Cause → Bool → Outcome
@@ -66,12 +66,12 @@ row n = row_in causes n
 
 -- a test's refusal, where a row was found, and else nothing that takes a test
 abbrev pub Refuse : Outcome → Type 0
-Refuse (Refused c) = Bool → Outcome
-Refuse Done = record {}
+Refuse (Err c) = Bool → Outcome
+Refuse (Ok tt) = record {}
 
 abbrev refuse_at : (o : Outcome) → Refuse o
-refuse_at (Refused c) = refuse_for c
-refuse_at Done = record {}
+refuse_at (Err c) = refuse_for c
+refuse_at (Ok tt) = record {}
 
 -- `refuse n test`: the refusal that the table numbers n. For a number that the table lacks there is
 -- none, and `refuse 18 test` has no type
@@ -81,8 +81,8 @@ refuse n = refuse_at (row n)
 -- "With several causes: .. then .. then ..": the first that is given
 infixr 4 ◌or_else◌
 abbrev pub ◌or_else◌ : Outcome → Outcome → Outcome
-Done or_else o = o
-Refused c or_else o = Refused c
+Ok tt or_else o = o
+Err c or_else o = Refused c
 
 -- 1 and 2 of a width and a unit; done where there is none
 unfoldable pub format_check : Format → Outcome
@@ -103,16 +103,20 @@ abbrev pub blank_format : Format
 blank_format = record { width = 2; unit = pos 0 }
 
 abbrev pub after : {A : Type 0} → (Cause → A) → Outcome → A → A
-after refused Done answer = answer
-after refused (Refused c) answer = refused c
+after refused (Ok tt) answer = answer
+after refused (Err c) answer = refused c
 
 -- "Only the named places are written", the first ones; at a refusal "lent buffers .. stay as they
 -- were"
 unfoldable pub lent_after : {A : Type 0} → Outcome → List A → List A → List A
-lent_after Done new old = at_front new old
-lent_after (Refused c) new old = old
+lent_after (Ok tt) new old = at_front new old
+lent_after (Err c) new old = old
 
 -- "Writing a digit text or a file answers the count of bytes written, 0 when refused."
 unfoldable pub write_answer : Outcome → ℕ → WriteAnswer
-write_answer Done n = record { outcome = Done; count = n }
-write_answer (Refused c) n = record { outcome = Refused c; count = 0 }
+write_answer (Ok tt) n = record { outcome = Done; count = n }
+write_answer (Err c) n = record { outcome = Refused c; count = 0 }
+
+abbrev pub write_answer_of : Result ℕ Cause → WriteAnswer
+write_answer_of (Ok n) = write_answer Done n
+write_answer_of (Err c) = write_answer (Refused c) 0

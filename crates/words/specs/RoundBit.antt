@@ -1,11 +1,11 @@
 -- Round-bit words: "Round-bit word (a, r), r 0 or 1: value a + r units .."
 use Rattle.std.specs.Prelude.{ℕ, ℤ, pos}
 use Rattle.words.specs.declared.Cause.{Cause}
-use Rattle.words.specs.declared.Outcome.{Outcome}
-use Rattle.words.specs.declared.Outcome.TheVariants.{Done, Refused}
+use Rattle.words.specs.Outcomes.{Outcome}
+use Rattle.words.specs.Outcomes.{Done, Refused}
 use Rattle.words.specs.declared.Format.{Format}
-use Rattle.words.specs.declared.RoundBitWord.{RoundBitWord}
-use Rattle.words.specs.declared.RoundBitAnswer.{RoundBitAnswer}
+use Rattle.words.specs.Kinds.{RoundBitWord}
+use Rattle.words.specs.Kinds.{RoundBitAnswer}
 use Rattle.words.specs.Words.{value, outside}
 use Rattle.words.specs.Words.Kind.{round_bit}
 use Rattle.words.specs.Refusals.{refuse, word_check, blank_format, after}
@@ -18,7 +18,7 @@ abbrev pub round_bit_value : RoundBitWord → ℤ
 round_bit_value w = value round_bit w.number.0 w.number.1
 
 -- the first of the causes 1, 2, 3
-unfoldable pub round_bit_check : RoundBitWord → Outcome
+abbrev pub round_bit_check : RoundBitWord → Outcome
 round_bit_check w = word_check w.format w.number.0 w.number.1
 
 -- the answer of a refusal: the blank word

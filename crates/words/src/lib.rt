@@ -2,100 +2,171 @@
 //
 // A word is a number in a format: a width of 2 to 63 digits and a unit 2^e, e from -127 to 127. The
 // same digits mean three amounts, 5, (5,1) = 6 and 5.5, so each kind of number is a type of its own
-// and none is taken for another. A call answers an outcome, done or refused for one cause of the
-// table of refusals, and a word: the blank one where it refused.
+// and none is taken for another. What a kind's number has is a trait, and what is so of a word of any
+// kind is said once. A call answers an outcome, done or refused for one cause of the table of refusals,
+// and a word: the blank one where it refused. Inside, what can refuse is a `Result`.
 //
 // Every function here takes any value of these types. The definitions are in specs/, in document
 // 01's order; what a passed check tells is in proofs/Laws.antt.
 #![tactic(auto)]
 
-ghost use Rattle.std.specs.Prelude.{◌≡◌, ◌-◌, ◌^◌, ◌<◌};
+ghost use Rattle.std.specs.Prelude.{◌≡◌, ◌-◌, ◌^◌, ◌<◌, ℕ, ℤ, pos};
+ghost use Rattle.words.specs.Outcomes.{given};
 ghost use Rattle.words.specs.Words.{bad_width, bad_unit, outside, bad_round_bit};
-ghost use Rattle.words.specs.Refusals.{cause_number, number_of, refuse_for, ◌or_else◌, format_check, word_check, differ, refuse, blank_format};
-ghost use Rattle.words.specs.Formats.{format, narrower, narrower_check, wider, units_multiplied, answer_check, format_answer};
-ghost use Rattle.words.specs.Plain.{plain_check, plain_refused, plain_done, plain_fitted};
-ghost use Rattle.words.specs.RoundBit.{round_bit_check, round_bit_refused, round_bit_done, round_bit_fitted};
-ghost use Rattle.words.specs.HalfUnit.{half_unit_check, half_unit_refused, half_unit_done, half_unit_fitted};
+ghost use Rattle.words.specs.Refusals.{cause_number, number_of, refuse_for, format_check, word_check, differ, refuse, ◌or_else◌, write_answer_of};
+ghost use Rattle.words.specs.Formats.{format, narrower, narrower_check, wider, units_multiplied, answer_check};
+ghost use Rattle.words.specs.Answers.{answer_of, cut_answer};
 
-// Why a call refuses, in the table's order. The table's number of each is `cause_number`.
-#[derive(Clone, Copy)]
+// Why a call refuses, in the table's order and with the table's numbers.
+#[derive(Clone, Copy, Debug, PartialEq, Eq)]
 pub enum Cause {
-    Width,
-    Unit,
-    Number,
-    Mismatch,
-    Depth,
-    WidthPast,
-    UnitPast,
-    NumberPast,
-    DigitText,
-    Buffer,
-    Mark,
-    Form,
-    Byte,
-    Run,
-    NotFinite,
-    Channel,
+    Width = 1,
+    Unit = 2,
+    Number = 3,
+    Mismatch = 4,
+    Depth = 5,
+    WidthPast = 6,
+    UnitPast = 7,
+    NumberPast = 8,
+    DigitText = 9,
+    Buffer = 10,
+    Mark = 11,
+    Form = 12,
+    Byte = 13,
+    Run = 14,
+    NotFinite = 15,
+    Channel = 17,
 }
 
-#[derive(Clone, Copy)]
-pub enum Outcome {
-    Done,
-    Refused(Cause),
-}
+// Done, or refused for a cause.
+pub type Outcome = Result<(), Cause>;
 
 // x
-#[derive(Clone, Copy)]
+#[derive(Clone, Copy, Debug, PartialEq, Eq)]
 pub struct Plain(pub i64);
 
 // (a, r)
-#[derive(Clone, Copy)]
+#[derive(Clone, Copy, Debug, PartialEq, Eq)]
 pub struct RoundBit(pub i64, pub u8);
 
 // w
-#[derive(Clone, Copy)]
+#[derive(Clone, Copy, Debug, PartialEq, Eq)]
 pub struct HalfUnit(pub i64);
 
-#[derive(Clone, Copy)]
+// What the number of every kind has: its digits, and a round bit, which is 0 where the kind has none.
+pub trait Digits: Copy {
+    ghost number: { Self → ℤ };
+
+    ghost round: { Self → ℕ };
+
+    ghost zero: { Self };
+
+    fn number(self) -> i64
+        ensures { result ≡ number self };
+
+    fn round(self) -> u8
+        ensures { result ≡ round self };
+
+    // That of the blank word.
+    fn zero() -> Self
+        ensures { result ≡ zero };
+}
+
+impl Digits for Plain {
+    ghost number = { λ n. n.0 };
+
+    ghost round = { λ n. 0 };
+
+    ghost zero = { record { 0 = pos 0 } };
+
+    fn number(self) -> i64 {
+        self.0
+    }
+
+    fn round(self) -> u8 {
+        0
+    }
+
+    fn zero() -> Plain {
+        Plain(0)
+    }
+}
+
+impl Digits for RoundBit {
+    ghost number = { λ n. n.0 };
+
+    ghost round = { λ n. n.1 };
+
+    ghost zero = { record { 0 = pos 0; 1 = 0 } };
+
+    fn number(self) -> i64 {
+        self.0
+    }
+
+    fn round(self) -> u8 {
+        self.1
+    }
+
+    fn zero() -> RoundBit {
+        RoundBit(0, 0)
+    }
+}
+
+impl Digits for HalfUnit {
+    ghost number = { λ n. n.0 };
+
+    ghost round = { λ n. 0 };
+
+    ghost zero = { record { 0 = pos 0 } };
+
+    fn number(self) -> i64 {
+        self.0
+    }
+
+    fn round(self) -> u8 {
+        0
+    }
+
+    fn zero() -> HalfUnit {
+        HalfUnit(0)
+    }
+}
+
+#[derive(Clone, Copy, Debug, PartialEq, Eq)]
 pub struct Format {
     pub width: u32,
     pub unit: i32,
 }
 
 #[derive(Clone, Copy)]
-pub struct PlainWord {
-    pub number: Plain,
+pub struct Word<N> {
+    pub number: N,
     pub format: Format,
 }
 
-#[derive(Clone, Copy)]
-pub struct RoundBitWord {
-    pub number: RoundBit,
-    pub format: Format,
-}
+pub type PlainWord = Word<Plain>;
+
+pub type RoundBitWord = Word<RoundBit>;
+
+pub type HalfUnitWord = Word<HalfUnit>;
 
 #[derive(Clone, Copy)]
-pub struct HalfUnitWord {
-    pub number: HalfUnit,
-    pub format: Format,
-}
-
-#[derive(Clone, Copy)]
-pub struct PlainAnswer {
+pub struct Answer<N> {
     pub outcome: Outcome,
-    pub word: PlainWord,
+    pub word: Word<N>,
 }
 
-#[derive(Clone, Copy)]
-pub struct RoundBitAnswer {
-    pub outcome: Outcome,
-    pub word: RoundBitWord,
-}
+pub type PlainAnswer = Answer<Plain>;
 
+pub type RoundBitAnswer = Answer<RoundBit>;
+
+pub type HalfUnitAnswer = Answer<HalfUnit>;
+
+// The answer of a cut, of an even cut and of a bank's output.
 #[derive(Clone, Copy)]
-pub struct HalfUnitAnswer {
+pub struct CutAnswer<N> {
     pub outcome: Outcome,
-    pub word: HalfUnitWord,
+    pub word: Word<N>,
 }
 
 // The answer of a writing into a lent buffer: the count of bytes written, 0 when refused.
@@ -105,66 +176,77 @@ pub struct WriteAnswer {
     pub count: usize,
 }
 
-// The format of an answer, or a refusal with the blank one.
-#[derive(Clone, Copy)]
-pub struct FormatAnswer {
-    pub outcome: Outcome,
-    pub format: Format,
+impl<N: Digits> From<Result<Word<N>, Cause>> for Answer<N> {
+    ghost from_gives = { λ r a. a ≡ answer_of N.zero r };
+
+    fn from(made: Result<Word<N>, Cause>) -> Answer<N> {
+        match made {
+            Ok(word) => Answer {
+                outcome: Ok(()),
+                word,
+            },
+            Err(cause) => Answer {
+                outcome: Err(cause),
+                word: Word {
+                    number: N::zero(),
+                    format: Format::BLANK,
+                },
+            },
+        }
+    }
+}
+
+impl<N: Digits> From<Result<Word<N>, Cause>> for CutAnswer<N> {
+    ghost from_gives = { λ r a. a ≡ cut_answer (answer_of N.zero r) };
+
+    fn from(made: Result<Word<N>, Cause>) -> CutAnswer<N> {
+        let Answer { outcome, word } = Answer::from(made);
+        CutAnswer { outcome, word }
+    }
+}
+
+impl From<Result<usize, Cause>> for WriteAnswer {
+    ghost from_gives = { λ r a. a ≡ write_answer_of r };
+
+    #[tactic(auto, unfolding(crate::specs::Refusals::write_answer))]
+    fn from(written: Result<usize, Cause>) -> WriteAnswer {
+        match written {
+            Ok(count) => WriteAnswer {
+                outcome: Ok(()),
+                count,
+            },
+            Err(cause) => WriteAnswer {
+                outcome: Err(cause),
+                count: 0,
+            },
+        }
+    }
 }
 
 // The table's number of a cause.
-fn cause_number(c: Cause) -> u32
-    ensures { result ≡ cause_number c }
-{
-    match c {
-        Cause::Width => 1,
-        Cause::Unit => 2,
-        Cause::Number => 3,
-        Cause::Mismatch => 4,
-        Cause::Depth => 5,
-        Cause::WidthPast => 6,
-        Cause::UnitPast => 7,
-        Cause::NumberPast => 8,
-        Cause::DigitText => 9,
-        Cause::Buffer => 10,
-        Cause::Mark => 11,
-        Cause::Form => 12,
-        Cause::Byte => 13,
-        Cause::Run => 14,
-        Cause::NotFinite => 15,
-        Cause::Channel => 17,
+impl From<Cause> for u32 {
+    ghost from_gives = { λ c n. n ≡ cause_number c };
+
+    fn from(cause: Cause) -> u32 {
+        cause as u32
     }
 }
 
 // The number of an outcome: 0 for done, else the table's.
-pub fn number_of(o: Outcome) -> u32
-    ensures { result ≡ number_of o }
+pub fn number_of(outcome: Outcome) -> u32
+    ensures { result ≡ number_of outcome }
 {
-    match o {
-        Outcome::Done => 0,
-        Outcome::Refused(c) => cause_number(c),
+    match outcome {
+        Ok(()) => 0,
+        Err(cause) => cause.into(),
     }
 }
 
 // The cause, where its test holds.
-pub fn refuse_for(c: Cause, test: bool) -> Outcome
-    ensures { result ≡ refuse_for c test }
+pub fn refuse_for(cause: Cause, test: bool) -> Outcome
+    ensures { result ≡ refuse_for cause test }
 {
-    if test {
-        Outcome::Refused(c)
-    } else {
-        Outcome::Done
-    }
-}
-
-// The first refusal of the two, or done.
-pub fn or_else(a: Outcome, b: Outcome) -> Outcome
-    ensures { result ≡ (a or_else b) }
-{
-    match a {
-        Outcome::Refused(c) => Outcome::Refused(c),
-        Outcome::Done => b,
-    }
+    if test { Err(cause) } else { Ok(()) }
 }
 
 pub const LEAST_WIDTH: u32 = 2;
@@ -175,261 +257,152 @@ pub const MOST_UNIT: i32 = 127;
 
 pub const LEAST_UNIT: i32 = -MOST_UNIT;
 
-fn bad_width(f: Format) -> bool
-    ensures { result ≡ bad_width f.width }
+fn bad_round_bit(round: u8) -> bool
+    ensures { result ≡ bad_round_bit round }
 {
-    !((LEAST_WIDTH <= f.width) & (f.width <= MOST_WIDTH))
+    !(round <= 1)
 }
 
-// Is the unit exponent outside -127 to 127?
-pub fn bad_unit(f: Format) -> bool
-    ensures { result ≡ bad_unit f.unit }
-{
-    !((LEAST_UNIT <= f.unit) & (f.unit <= MOST_UNIT))
-}
+impl Format {
+    // Of the blank word.
+    pub const BLANK: Format = Format {
+        width: LEAST_WIDTH,
+        unit: 0,
+    };
 
-// Does a number lie outside the format's width?
-pub fn outside(f: Format, x: i64) -> bool
-    ensures { result ≡ outside f x }
-{
-    !integers::fits_width(x, f.width)
-}
+    fn bad_width(self) -> bool
+        ensures { result ≡ bad_width self.width }
+    {
+        !(LEAST_WIDTH..=MOST_WIDTH).contains(&self.width)
+    }
 
-fn bad_round_bit(r: u8) -> bool
-    ensures { result ≡ bad_round_bit r }
-{
-    !(r <= 1)
-}
+    // Is the unit exponent outside -127 to 127?
+    pub fn bad_unit(self) -> bool
+        ensures { result ≡ bad_unit self.unit }
+    {
+        !(LEAST_UNIT..=MOST_UNIT).contains(&self.unit)
+    }
 
-// Do two formats differ in width or unit?
-pub fn differ(f: Format, g: Format) -> bool
-    ensures { result ≡ differ f g }
-{
-    !((f.width == g.width) & ((f.unit <= g.unit) & (g.unit <= f.unit)))
-}
+    // Does a number lie outside the format's width?
+    pub fn outside(self, x: i64) -> bool
+        ensures { result ≡ outside self x }
+    {
+        !integers::fits_width(x, self.width)
+    }
 
-// The first of the causes 1 and 2 of a format.
-pub fn format_check(f: Format) -> Outcome
-    ensures { result ≡ format_check f }
-{
-    let width = bad_width(f);
-    let unit = bad_unit(f);
-    if let Outcome::Refused(c) = refuse_for(Cause::Width, width) {
-        Outcome::Refused(c)
-    } else {
+    // Do two formats differ in width or unit?
+    pub fn differs(self, other: Format) -> bool
+        ensures { result ≡ differ self other }
+    {
+        self != other
+    }
+
+    // The first of the causes 1 and 2.
+    #[tactic(auto, unfolding(crate::specs::Refusals::format_check))]
+    pub fn check(self) -> Outcome
+        ensures { result ≡ format_check self }
+    {
+        let width = self.bad_width();
+        let unit = self.bad_unit();
+        refuse_for(Cause::Width, width)?;
         refuse_for(Cause::Unit, unit)
     }
-}
 
-// The first of the causes 1, 2 and 3 of a number and a round bit in a format.
-fn word_check(f: Format, x: i64, r: u8) -> Outcome
-    ensures { result ≡ word_check f x r }
-{
-    if let Outcome::Refused(c) = format_check(f) {
-        Outcome::Refused(c)
-    } else {
-        refuse_for(Cause::Number, outside(f, x) | bad_round_bit(r))
-    }
-}
-
-// The width and the unit of the blank word.
-const BLANK_FORMAT: Format = Format {
-    width: LEAST_WIDTH,
-    unit: 0,
-};
-
-// A refusal, with the blank format.
-pub fn format_refused(c: Cause) -> FormatAnswer
-    ensures { result ≡ format_answer (Outcome.Refused c) blank_format }
-{
-    FormatAnswer {
-        outcome: Outcome::Refused(c),
-        format: BLANK_FORMAT,
-    }
-}
-
-// The ends of the widths and units, in the types of a width and a unit that may lie outside them.
-const MOST_WIDTH_WIDE: u64 = MOST_WIDTH as u64;
-
-const LEAST_UNIT_WIDE: i64 = LEAST_UNIT as i64;
-
-const MOST_UNIT_WIDE: i64 = MOST_UNIT as i64;
-
-// The format of this width and unit, or 7.
-fn placed(width: u64, unit: i64) -> FormatAnswer
-    requires { width < 2 ^ 32 }
-    ensures { result ≡ format_answer (refuse 7 (bad_unit unit)) (format width unit) }
-{
-    if (LEAST_UNIT_WIDE <= unit) & (unit <= MOST_UNIT_WIDE) {
-        FormatAnswer {
-            outcome: Outcome::Done,
-            format: Format {
+    // The format of this width and unit, or 7.
+    fn placed(width: u64, unit: i64) -> Result<Format, Cause>
+        requires { width < 2 ^ 32 }
+        ensures { result ≡ given (refuse 7 (bad_unit unit)) (format width unit) }
+    {
+        if (i64::from(LEAST_UNIT)..=i64::from(MOST_UNIT)).contains(&unit) {
+            Ok(Format {
                 width: width as u32,
                 unit: unit as i32,
-            },
+            })
+        } else {
+            Err(Cause::UnitPast)
         }
-    } else {
-        format_refused(Cause::UnitPast)
+    }
+
+    // The format of this width and unit, or 6, or 7.
+    #[tactic(auto, unfolding(crate::specs::Formats::answer_check))]
+    pub fn formed(width: u64, unit: i64) -> Result<Format, Cause>
+        ensures { result ≡ given (answer_check (format width unit)) (format width unit) }
+    {
+        refuse_for(Cause::WidthPast, u64::from(MOST_WIDTH) < width)?;
+        Format::placed(width, unit)
+    }
+
+    // The unit of a product; an i32 might not hold it.
+    pub fn units_multiplied(self, other: Format) -> i64
+        ensures { result ≡ units_multiplied self other }
+    {
+        i64::from(self.unit) + i64::from(other.unit)
+    }
+
+    // d digits more on the right: the unit is finer by 2^d.
+    #[tactic(auto, unfolding(crate::specs::Formats::answer_check))]
+    pub fn wider(self, d: u64) -> Result<Format, Cause>
+        ensures { result ≡ given (answer_check (wider self d)) (wider self d) }
+    {
+        refuse_for(Cause::WidthPast, u64::from(MOST_WIDTH) < d)?;
+        Format::formed(u64::from(self.width) + d, i64::from(self.unit) - d as i64)
+    }
+
+    // d digits fewer on the right: the unit is coarser by 2^d.
+    #[tactic(auto, unfolding(crate::specs::Formats::narrower_check))]
+    pub fn narrower(self, d: u64) -> Result<Format, Cause>
+        ensures { result ≡ given (narrower_check self d) (narrower self d) }
+    {
+        let width = u64::from(self.width);
+        refuse_for(
+            Cause::Depth,
+            width.saturating_sub(d) < u64::from(LEAST_WIDTH),
+        )?;
+        Format::placed(width - d, i64::from(self.unit) + d as i64)
     }
 }
 
-// The format of this width and unit, or 6, or 7.
-pub fn formed(width: u64, unit: i64) -> FormatAnswer
-    ensures { result ≡ format_answer (answer_check (format width unit)) (format width unit) }
-{
-    if MOST_WIDTH_WIDE < width {
-        format_refused(Cause::WidthPast)
-    } else {
-        placed(width, unit)
+impl<N: Digits> Word<N> {
+    // The first of the causes 1, 2 and 3.
+    #[tactic(auto, unfolding(crate::specs::Refusals::word_check))]
+    pub fn check(self) -> Outcome
+        ensures { result ≡ word_check self.format (N.number self.number) (N.round self.number) }
+    {
+        self.format.check()?;
+        let outside = self.format.outside(self.number.number());
+        refuse_for(Cause::Number, outside | bad_round_bit(self.number.round()))
     }
-}
 
-// The unit of a product; an i32 might not hold it.
-pub fn units_multiplied(f: Format, g: Format) -> i64
-    ensures { result ≡ units_multiplied f g }
-{
-    (f.unit as i64) + (g.unit as i64)
-}
-
-// d digits more on the right: the unit is finer by 2^d.
-pub fn wider(f: Format, d: u64) -> FormatAnswer
-    ensures { result ≡ format_answer (answer_check (wider f d)) (wider f d) }
-{
-    if MOST_WIDTH_WIDE < d {
-        format_refused(Cause::WidthPast)
-    } else {
-        formed((f.width as u64) + d, (f.unit as i64) - (d as i64))
+    // The word, or 8 where its number, and not its value, does not fit its width.
+    pub fn fitted(self) -> Result<Word<N>, Cause>
+        ensures { result ≡ given (refuse 8 (outside self.format (N.number self.number))) self }
+    {
+        refuse_for(Cause::NumberPast, self.format.outside(self.number.number()))?;
+        Ok(self)
     }
-}
 
-// d digits fewer on the right: the unit is coarser by 2^d.
-pub fn narrower(f: Format, d: u64) -> FormatAnswer
-    ensures { result ≡ format_answer (narrower_check f d) (narrower f d) }
-{
-    let width = f.width as u64;
-    if width < 2 {
-        return format_refused(Cause::Depth);
+    // The format of a word that is cut by d: 1, 2 and 3, then 5 and 7.
+    pub fn cut_format(self, d: u64) -> Result<Format, Cause>
+        ensures { result ≡ given (word_check self.format (N.number self.number) (N.round self.number) or_else narrower_check self.format d) (narrower self.format d) }
+    {
+        self.check()?;
+        self.format.narrower(d)
     }
-    if width - 2 < d {
-        format_refused(Cause::Depth)
-    } else {
-        placed(width - d, (f.unit as i64) + (d as i64))
+
+    // The format of a word that gets d digits more on the right: 1, 2 and 3, then 6 and 7.
+    pub fn widened_format(self, d: u64) -> Result<Format, Cause>
+        ensures { result ≡ given (word_check self.format (N.number self.number) (N.round self.number) or_else answer_check (wider self.format d)) (wider self.format d) }
+    {
+        self.check()?;
+        self.format.wider(d)
     }
-}
 
-// Plain words.
-pub fn plain_check(w: PlainWord) -> Outcome
-    ensures { result ≡ plain_check w }
-{
-    word_check(w.format, w.number.0, 0)
-}
-
-pub fn plain_refused(c: Cause) -> PlainAnswer
-    ensures { result ≡ plain_refused c }
-{
-    PlainAnswer {
-        outcome: Outcome::Refused(c),
-        word: PlainWord {
-            number: Plain(0),
-            format: BLANK_FORMAT,
-        },
-    }
-}
-
-pub fn plain_done(w: PlainWord) -> PlainAnswer
-    ensures { result ≡ plain_done w }
-{
-    PlainAnswer {
-        outcome: Outcome::Done,
-        word: w,
-    }
-}
-
-// The word, or 8 where its number does not fit its width.
-pub fn plain_fitted(w: PlainWord) -> PlainAnswer
-    ensures { result ≡ plain_fitted w }
-{
-    if outside(w.format, w.number.0) {
-        plain_refused(Cause::NumberPast)
-    } else {
-        plain_done(w)
-    }
-}
-
-// Round-bit words.
-pub fn round_bit_check(w: RoundBitWord) -> Outcome
-    ensures { result ≡ round_bit_check w }
-{
-    word_check(w.format, w.number.0, w.number.1)
-}
-
-pub fn round_bit_refused(c: Cause) -> RoundBitAnswer
-    ensures { result ≡ round_bit_refused c }
-{
-    RoundBitAnswer {
-        outcome: Outcome::Refused(c),
-        word: RoundBitWord {
-            number: RoundBit(0, 0),
-            format: BLANK_FORMAT,
-        },
-    }
-}
-
-pub fn round_bit_done(w: RoundBitWord) -> RoundBitAnswer
-    ensures { result ≡ round_bit_done w }
-{
-    RoundBitAnswer {
-        outcome: Outcome::Done,
-        word: w,
-    }
-}
-
-// The word, or 8 where its number, and not its value, does not fit its width.
-pub fn round_bit_fitted(w: RoundBitWord) -> RoundBitAnswer
-    ensures { result ≡ round_bit_fitted w }
-{
-    if outside(w.format, w.number.0) {
-        round_bit_refused(Cause::NumberPast)
-    } else {
-        round_bit_done(w)
-    }
-}
-
-// Half-unit words.
-pub fn half_unit_check(w: HalfUnitWord) -> Outcome
-    ensures { result ≡ half_unit_check w }
-{
-    word_check(w.format, w.number.0, 0)
-}
-
-pub fn half_unit_refused(c: Cause) -> HalfUnitAnswer
-    ensures { result ≡ half_unit_refused c }
-{
-    HalfUnitAnswer {
-        outcome: Outcome::Refused(c),
-        word: HalfUnitWord {
-            number: HalfUnit(0),
-            format: BLANK_FORMAT,
-        },
-    }
-}
-
-pub fn half_unit_done(w: HalfUnitWord) -> HalfUnitAnswer
-    ensures { result ≡ half_unit_done w }
-{
-    HalfUnitAnswer {
-        outcome: Outcome::Done,
-        word: w,
-    }
-}
-
-// The word, or 8 where its number does not fit its width.
-pub fn half_unit_fitted(w: HalfUnitWord) -> HalfUnitAnswer
-    ensures { result ≡ half_unit_fitted w }
-{
-    if outside(w.format, w.number.0) {
-        half_unit_refused(Cause::NumberPast)
-    } else {
-        half_unit_done(w)
+    // 1, 2 and 3 of two operands of a sum, then 4.
+    pub fn sum_check(self, other: Word<N>) -> Outcome
+        ensures { result ≡ (word_check self.format (N.number self.number) (N.round self.number) or_else word_check other.format (N.number other.number) (N.round other.number) or_else refuse 4 (differ self.format other.format)) }
+    {
+        self.check()?;
+        other.check()?;
+        refuse_for(Cause::Mismatch, self.format.differs(other.format))
     }
 }

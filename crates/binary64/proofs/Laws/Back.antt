@@ -15,8 +15,8 @@ use lib.Ieee.Exact.{HasValue, round_exact}
 use lib.Ieee.Fits.{down_pos, round-fits}
 use borrow.Author.Tests.{le-ltb}
 use Rattle.integers.proofs.Kit.{ints, plus_law, abs_law, one_zero, size_range}
-use Rattle.words.specs.declared.Outcome.TheVariants.{Done}
-use Rattle.words.specs.declared.PlainWord.{PlainWord}
+use Rattle.words.specs.Outcomes.{Done}
+use Rattle.words.specs.Kinds.{PlainWord}
 use Rattle.words.specs.Plain.{plain_check, plain_done, plain_fitted}
 use Rattle.words.proofs.Laws.{Right, plain_right, format_right}
 use Rattle.words.proofs.Operands.{fit_passes}

@@ -10,9 +10,9 @@ use borrow.Author.Rules.{rules}
 use Rattle.words.specs.Words.{outside}
 use Rattle.words.specs.Refusals.{refuse, after}
 use Rattle.words.specs.Plain.{plain_word, plain_fitted, plain_refused, plain_done}
-use Rattle.words.specs.declared.PlainAnswer.{PlainAnswer}
+use Rattle.words.specs.Kinds.{PlainAnswer}
 use Rattle.words.specs.declared.Format.{Format}
-use Rattle.words.specs.declared.Outcome.TheVariants.{Done}
+use Rattle.words.specs.Outcomes.{Done}
 use Rattle.words.proofs.Arms.{fit_refusing, fit_answering}
 use Rattle.binary64.specs.declared.Parts.{Parts}
 use Rattle.binary64.specs.Import.{import_check, sample, signed, in_units, nearest_whole, whole_count}

@@ -1,3 +1,4 @@
+use Rattle.std.specs.Prelude.{Ok, Err}
 use mathlib.Core.Path.{◌≡◌, refl, ap, ◌∙◌}
 use mathlib.Core.Bool.{Bool, true, false}
 use lib.IntN.{ℤ}
@@ -10,11 +11,11 @@ use Rattle.words.specs.Refusals.{refuse, after}
 use Rattle.words.specs.Formats.{format}
 use Rattle.words.specs.Plain.{plain_word, plain_fitted, plain_refused, plain_done, ◌and_then◌ as ◌and_then_plain◌}
 use Rattle.words.specs.RoundBit.{round_bit_word, round_bit_fitted, round_bit_refused, round_bit_done, ◌and_then◌}
-use Rattle.words.specs.declared.Outcome.{Outcome}
-use Rattle.words.specs.declared.Outcome.TheVariants.{Done, Refused}
+use Rattle.words.specs.Outcomes.{Outcome}
+use Rattle.words.specs.Outcomes.{Done, Refused}
 use Rattle.words.specs.declared.Format.{Format}
-use Rattle.words.specs.declared.PlainAnswer.{PlainAnswer}
-use Rattle.words.specs.declared.RoundBitAnswer.{RoundBitAnswer}
+use Rattle.words.specs.Kinds.{PlainAnswer}
+use Rattle.words.specs.Kinds.{RoundBitAnswer}
 use Rattle.binary64.specs.Import.{import_check, whole_count}
 use Rattle.binary64.proofs.to_round_bit.Goals as goal
 
@@ -29,8 +30,8 @@ by-fit false x f = refl
 
 same : (o : Outcome) (x : ℤ) (f : Format) → with-bit (o and_then_plain plain_fitted (plain_word x f)) ≡ (o and_then round_bit_fitted (round_bit_word x 0 f))
 unfolding plain_fitted round_bit_fitted
-same (Refused c) x f = refl
-same Done x f = by-fit (outside f x) x f
+same (Err c) x f = refl
+same (Ok tt) x f = by-fit (outside f x) x f
 
 pub returns : goal.returns
 returns c =

@@ -11,9 +11,9 @@ use Rattle.integers.proofs.Floor.{floor_none, floor_floor, turned_law}
 use Rattle.integers.proofs.Digits.{digit_law, digit_floor}
 use Rattle.integers.proofs.Halves.{doubled_floor, doubled_digit}
 use Rattle.words.specs.RoundBit.{round_bit_check}
-use Rattle.words.specs.declared.Outcome.TheVariants.{Done}
+use Rattle.words.specs.Outcomes.{Done}
 use Rattle.words.specs.declared.RoundBit.{RoundBit}
-use Rattle.words.specs.declared.RoundBitWord.{RoundBitWord}
+use Rattle.words.specs.Kinds.{RoundBitWord}
 use Rattle.round_bit.specs.Cuts.{sign_changed, cut_by, cut_word}
 use Rattle.digit_text.specs.Digits.{signed_digit, text, text_value}
 use Rattle.digit_text.proofs.Laws.Steps.{bit_below}

@@ -13,10 +13,10 @@ use Rattle.integers.proofs.Kit.{ints, plus_law}
 use Rattle.integers.proofs.Digits.{digit_minus_one}
 use Rattle.words.specs.Formats.{format}
 use Rattle.words.specs.RoundBit.{round_bit_word, round_bit_check, round_bit_done}
-use Rattle.words.specs.declared.Outcome.TheVariants.{Done}
+use Rattle.words.specs.Outcomes.{Done}
 use Rattle.words.specs.declared.Format.{Format}
 use Rattle.words.specs.declared.RoundBit.{RoundBit}
-use Rattle.words.specs.declared.RoundBitWord.{RoundBitWord}
+use Rattle.words.specs.Kinds.{RoundBitWord}
 use Rattle.words.proofs.Laws.{both_pass, RightFormat, format_right, round_bit_right, round_bit_passes}
 use Rattle.words.proofs.Operands.{done_passed}
 use Rattle.digit_text.specs.Digits.{none, byte_of, text, text_value}

@@ -18,9 +18,9 @@ use Rattle.integers.proofs.Digits.{digit_le, digit_turned, digit_floor, digit_wi
 use Rattle.integers.proofs.LowDigits.{fits_digits}
 use Rattle.integers.proofs.Lists.{length_tab}
 use Rattle.words.specs.RoundBit.{round_bit_check}
-use Rattle.words.specs.declared.Outcome.TheVariants.{Done}
+use Rattle.words.specs.Outcomes.{Done}
 use Rattle.words.specs.declared.RoundBit.{RoundBit}
-use Rattle.words.specs.declared.RoundBitWord.{RoundBitWord}
+use Rattle.words.specs.Kinds.{RoundBitWord}
 use Rattle.words.proofs.Laws.{RightRoundBit, round_bit_right}
 use Rattle.words.proofs.Formats.{digits_left}
 use Rattle.round_bit.specs.Cuts.{sign_changed, sign_change_word, cut_by, cut_word, cut_of, widen_word, widen_of}

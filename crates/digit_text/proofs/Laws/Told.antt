@@ -1,6 +1,7 @@
 -- Which place a reading tells, and that it refuses by 13 and by 9 exactly so (document 02, Ask 3). Assumes nothing.
 -- Proved here: `inside`, `byte`, `before`, `known`, `sign`, `same`, `earlier`, `strange_told`, `repeat_told`, `none_told`, `strange_refused`,
 -- `repeated_refused`.
+use Rattle.std.specs.Prelude.{Ok, Err}
 use Prim.Native.Nat.{ℕ, ◌<◌}
 use native.Mathlib.Omega.{arith}
 use mathlib.Core.Path.{◌≡◌, refl, sym, ap, ◌∙◌}
@@ -16,8 +17,8 @@ use Rattle.words.specs.Refusals.{cause_number, number_of, refuse_for, ◌or_else
 use Rattle.words.specs.Formats.{format}
 use Rattle.words.specs.RoundBit.{round_bit_done}
 use Rattle.words.specs.declared.Cause.TheVariants.{Width, Unit, Byte, DigitText}
-use Rattle.words.specs.declared.Outcome.{Outcome}
-use Rattle.words.specs.declared.Outcome.TheVariants.{Done, Refused}
+use Rattle.words.specs.Outcomes.{Outcome}
+use Rattle.words.specs.Outcomes.{Done, Refused}
 use Rattle.words.proofs.Laws.{RightFormat, format_right, cause_one}
 use Rattle.words.proofs.Operands.{outcome_kept}
 use Rattle.digit_text.specs.Digits.{plus, none, minus}
@@ -73,8 +74,8 @@ module _ (t : List ℕ) (e : ℤ) where
   read_place = go (read_check t e)
     where
       go : (o : Outcome) → (after (read_refused t) o (read_answer (round_bit_done (read_word t e)))).place ≡ place_of t o
-      go Done = refl
-      go (Refused c) = refl
+      go (Ok tt) = refl
+      go (Err c) = refl
 
   tested : let o = read_check t e in
       (o ≡ Refused Byte → found (strange_place t) t ≡ true)
@@ -133,8 +134,8 @@ module _ (t : List ℕ) (e : ℤ) where
   none_told b r = read_place ∙ untold (read_check t e) (λ d. b (read_outcome ∙ d)) (λ d. r (read_outcome ∙ d))
     where
       untold : (o : Outcome) → (o ≡ Refused Byte → ⊥) → (o ≡ Refused DigitText → ⊥) → place_of t o ≡ 0
-      untold Done b r = refl
-      untold (Refused c) b r =
+      untold (Ok tt) b r = refl
+      untold (Err c) b r =
           rw (ne_eqb (cause_number c) 13 (λ d. b (ap Refused (cause_one c Byte d))), ne_eqb (cause_number c) 9 (λ d. r (ap Refused (cause_one c DigitText d))))
 
   -- ---- a text of a right length and unit is refused by 13 where a byte is none of the three, whatever else is wrong with it, and by 9 where

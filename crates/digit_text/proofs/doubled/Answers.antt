@@ -7,8 +7,8 @@ use mir.Val.{SFits, to_z}
 use mir.Facts.{to_z-of_z, to_z_pos}
 use Rattle.integers.proofs.Kit.{ints, plus_law, times_law, size_range}
 use Rattle.words.specs.RoundBit.{round_bit_check}
-use Rattle.words.specs.declared.Outcome.TheVariants.{Done}
-use Rattle.words.specs.declared.RoundBitWord.{RoundBitWord}
+use Rattle.words.specs.Outcomes.{Done}
+use Rattle.words.specs.Kinds.{RoundBitWord}
 use Rattle.words.proofs.Laws.{RightRoundBit, round_bit_right, small, machine}
 use Rattle.digit_text.proofs.Laws.Picture.{top_row}
 use Rattle.digit_text.proofs.doubled.Goals as goal

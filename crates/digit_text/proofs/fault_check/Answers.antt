@@ -2,7 +2,7 @@ use Prim.Native.Nat.{ℕ}
 use mathlib.Core.List.{List}
 use mathlib.Core.Path.{◌≡◌, sym, ap, ◌∙◌}
 use Rattle.words.specs.declared.Cause.TheVariants.{Byte, DigitText}
-use Rattle.words.specs.declared.Outcome.{Outcome}
+use Rattle.words.specs.Outcomes.{Outcome}
 use Rattle.digit_text.specs.declared.Finding.{Finding}
 use Rattle.digit_text.specs.Reading.{strange_place}
 use Rattle.digit_text.proofs.Places.{fault_at, byte_finding, repeat_finding}

@@ -13,7 +13,7 @@ use Rattle.integers.specs.Lists.{over}
 use Rattle.integers.proofs.Floor.{floor_none, floor_floor}
 use Rattle.integers.proofs.Digits.{digit_floor}
 use Rattle.integers.proofs.Lists.{over_none}
-use Rattle.words.specs.declared.RoundBitWord.{RoundBitWord}
+use Rattle.words.specs.Kinds.{RoundBitWord}
 use Rattle.words.proofs.Laws.{round_bit_right, machine}
 use Rattle.digit_text.specs.Digits.{byte_of, byte_at}
 use Rattle.digit_text.proofs.Laws.Picture.{top_row, top_less_bottom}

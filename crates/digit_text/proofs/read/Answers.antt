@@ -6,9 +6,9 @@ use lib.IntN.{ℤ}
 use mir.Facts.{to_z-of_z}
 use Rattle.words.specs.RoundBit.{round_bit_done, round_bit_refused}
 use Rattle.words.specs.declared.Cause.{Cause}
-use Rattle.words.specs.declared.Outcome.{Outcome}
-use Rattle.words.specs.declared.Outcome.TheVariants.{Done, Refused}
-use Rattle.words.specs.declared.RoundBitWord.{RoundBitWord}
+use Rattle.words.specs.Outcomes.{Outcome}
+use Rattle.words.specs.Outcomes.{Done, Refused}
+use Rattle.words.specs.Kinds.{RoundBitWord}
 use Rattle.words.proofs.Arms.{refusing, answering}
 use Rattle.digit_text.specs.declared.Finding.{Finding}
 use Rattle.digit_text.specs.declared.ReadAnswer.{ReadAnswer}

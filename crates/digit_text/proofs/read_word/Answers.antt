@@ -8,7 +8,7 @@ use mir.Facts.{to_z-of_z, to_z_pos}
 use mir.Syntax.{w64}
 use mir.Val.{SFits, to_z}
 use Rattle.integers.proofs.Kit.{ints, abs_law, minus_law}
-use Rattle.words.specs.declared.Outcome.TheVariants.{Done}
+use Rattle.words.specs.Outcomes.{Done}
 use Rattle.digit_text.specs.Digits.{text_value}
 use Rattle.digit_text.specs.Reading.{read_round, read_check, read_word}
 use Rattle.digit_text.proofs.Scan.{value_small, round_le}

@@ -1,7 +1,7 @@
 use mathlib.Core.Path.{◌≡◌, refl, sym, ◌∙◌}
 use lib.ListN.{length}
 use Rattle.integers.proofs.Lists.{over_front}
-use Rattle.words.specs.declared.Outcome.TheVariants.{Done}
+use Rattle.words.specs.Outcomes.{Done}
 use Rattle.words.specs.Refusals.{lent_after, write_answer}
 use Rattle.digit_text.specs.Digits.{text, write_check, write_of, buffer_of}
 use Rattle.digit_text.proofs.Scan.{write_right, write_room}

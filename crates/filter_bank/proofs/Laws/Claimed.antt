@@ -14,8 +14,8 @@ use Rattle.words.specs.Refusals.{refuse}
 use Rattle.words.specs.Formats.{format, narrower_check}
 use Rattle.words.specs.RoundBit.{round_bit_value, round_bit_check, round_bit_done}
 use Rattle.words.specs.declared.Cause.TheVariants.{UnitPast}
-use Rattle.words.specs.declared.Outcome.TheVariants.{Done}
-use Rattle.words.specs.declared.RoundBitWord.{RoundBitWord}
+use Rattle.words.specs.Outcomes.{Done}
+use Rattle.words.specs.Kinds.{RoundBitWord}
 use Rattle.words.proofs.Laws.{passed, three_passed, or-false}
 use Rattle.round_bit.specs.declared.CutAnswer.{CutAnswer}
 use Rattle.round_bit.specs.Cuts.{cut_check, cut_answer}

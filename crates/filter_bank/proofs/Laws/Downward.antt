@@ -4,7 +4,7 @@ use Prim.Native.Nat.{◌≤◌}
 use mathlib.Core.Path.{◌≡◌, refl, sym, ap, ◌∙◌}
 use mathlib.Core.List.{List, [], ◌∷◌, reverse, reverse_aux}
 use Rattle.words.specs.declared.Format.{Format}
-use Rattle.words.specs.declared.RoundBitWord.{RoundBitWord}
+use Rattle.words.specs.Kinds.{RoundBitWord}
 use Rattle.round_bit.specs.Arithmetic.{sum_word}
 use Rattle.round_bit.proofs.Laws.SumWords.{sum_word_bit, sum_word_comm, sum_word_assoc}
 use Rattle.filter_bank.specs.Bank.{added_to, total}

@@ -5,8 +5,8 @@ use mathlib.Core.Path.{◌≡◌}
 use mathlib.Core.List.{List}
 use lib.ListN.{length}
 use Rattle.words.specs.RoundBit.{round_bit_check}
-use Rattle.words.specs.declared.Outcome.TheVariants.{Done}
-use Rattle.words.specs.declared.RoundBitWord.{RoundBitWord}
+use Rattle.words.specs.Outcomes.{Done}
+use Rattle.words.specs.Kinds.{RoundBitWord}
 use Rattle.round_bit.proofs.Checks.{word_done}
 use Rattle.filter_bank.specs.Bank.{most_channel, row_of, output_word, channel_check, output_of}
 use Rattle.filter_bank.specs.Claims.{Claimed}

@@ -9,9 +9,9 @@ use mathlib.Core.List.{List, [], reverse}
 use lib.ListN.{length, length-reverse}
 use Rattle.words.specs.Words.{bad_unit}
 use Rattle.words.specs.Formats.{format, answer_check}
-use Rattle.words.specs.declared.Outcome.TheVariants.{Done}
+use Rattle.words.specs.Outcomes.{Done}
 use Rattle.words.specs.declared.Format.{Format}
-use Rattle.words.specs.declared.RoundBitWord.{RoundBitWord}
+use Rattle.words.specs.Kinds.{RoundBitWord}
 use Rattle.words.proofs.Laws.{RightFormat}
 use Rattle.words.proofs.Formats.{answer_right}
 use Rattle.round_bit.specs.Arithmetic.{product_format}

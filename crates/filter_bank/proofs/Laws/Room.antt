@@ -10,7 +10,7 @@ use lib.Pow.{pow-add}
 use lib.Signed.{mag}
 use Rattle.words.specs.RoundBit.{round_bit_done}
 use Rattle.words.specs.declared.Format.{Format}
-use Rattle.words.specs.declared.RoundBitWord.{RoundBitWord}
+use Rattle.words.specs.Kinds.{RoundBitWord}
 use Rattle.words.proofs.Laws.{RightRoundBit}
 use Rattle.round_bit.specs.Arithmetic.{sum_word, sum_of}
 use Rattle.round_bit.proofs.Laws.Added.{added_size, added_bit}

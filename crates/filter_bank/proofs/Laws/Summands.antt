@@ -14,7 +14,7 @@ use Rattle.words.specs.Words.{value}
 use Rattle.words.specs.Formats.{format, units_multiplied}
 use Rattle.words.specs.RoundBit.{round_bit_value}
 use Rattle.words.specs.declared.Format.{Format}
-use Rattle.words.specs.declared.RoundBitWord.{RoundBitWord}
+use Rattle.words.specs.Kinds.{RoundBitWord}
 use Rattle.words.proofs.Laws.{RightFormat, round_bit_right}
 use Rattle.round_bit.specs.Arithmetic.{sum_word, product_format, product_word}
 use Rattle.round_bit.proofs.Laws.SumWords.{sum_word_value}

@@ -6,7 +6,7 @@ use mathlib.Core.List.{List}
 use lib.ListN.{length, drop}
 use Rattle.words.specs.Refusals.{differ}
 use Rattle.words.specs.declared.Format.{Format}
-use Rattle.words.specs.declared.RoundBitWord.{RoundBitWord}
+use Rattle.words.specs.Kinds.{RoundBitWord}
 use Rattle.filter_bank.specs.Bank.{any_differ}
 use Rattle.filter_bank.proofs.Rows.{at}
 use Rattle.filter_bank.proofs.Along.{differ_turn, row_end}

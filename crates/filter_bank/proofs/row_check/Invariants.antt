@@ -1,7 +1,7 @@
 use Prim.Native.Nat.{◌-◌, ◌≤◌}
 use mathlib.Core.Path.{◌≡◌}
 use lib.ListN.{drop}
-use Rattle.words.specs.declared.Outcome.TheVariants.{Done}
+use Rattle.words.specs.Outcomes.{Done}
 use Rattle.filter_bank.specs.Bank.{words_check}
 use Rattle.filter_bank.proofs.row_check.Given as goal
 

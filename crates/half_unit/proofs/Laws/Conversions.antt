@@ -18,10 +18,10 @@ use Rattle.words.specs.Formats.{narrower, wider}
 use Rattle.words.specs.Plain.{plain_value, plain_check, plain_refused, plain_done}
 use Rattle.words.specs.RoundBit.{round_bit_value, round_bit_check, round_bit_refused, round_bit_done}
 use Rattle.words.specs.HalfUnit.{half_unit_word, half_unit_value, half_unit_check, half_unit_done}
-use Rattle.words.specs.declared.Outcome.TheVariants.{Done}
-use Rattle.words.specs.declared.PlainWord.{PlainWord}
-use Rattle.words.specs.declared.RoundBitWord.{RoundBitWord}
-use Rattle.words.specs.declared.HalfUnitWord.{HalfUnitWord}
+use Rattle.words.specs.Outcomes.{Done}
+use Rattle.words.specs.Kinds.{PlainWord}
+use Rattle.words.specs.Kinds.{RoundBitWord}
+use Rattle.words.specs.Kinds.{HalfUnitWord}
 use Rattle.words.proofs.Laws.{RightFormat, Right, plain_passes, round_bit_passes, half_unit_right, half_unit_passes, plain_law, half_unit_law}
 use Rattle.words.proofs.Formats.{narrower_passes, narrower_wider}
 use Rattle.words.proofs.Rights.{cleared_right, doubled_right}

@@ -16,9 +16,9 @@ use Rattle.words.specs.Words.Kind.{half_unit}
 use Rattle.words.specs.Refusals.{word_check}
 use Rattle.words.specs.Formats.{narrower_check}
 use Rattle.words.specs.HalfUnit.{half_unit_value, half_unit_check, half_unit_refused, half_unit_done, ◌and_then◌}
-use Rattle.words.specs.declared.Outcome.{Outcome}
-use Rattle.words.specs.declared.Outcome.TheVariants.{Done}
-use Rattle.words.specs.declared.HalfUnitWord.{HalfUnitWord}
+use Rattle.words.specs.Outcomes.{Outcome}
+use Rattle.words.specs.Outcomes.{Done}
+use Rattle.words.specs.Kinds.{HalfUnitWord}
 use Rattle.words.proofs.Laws.{both_passed, both_pass, Right, half_unit_right, half_unit_passes, half_unit_law}
 use Rattle.words.proofs.Formats.{narrower_none, narrower_passes, narrower_first, narrower_then, narrower_narrower}
 use Rattle.words.proofs.Rights.{floor_right}

@@ -6,8 +6,8 @@ use mathlib.Core.Path.{◌≡◌, refl, ◌∙◌}
 use Rattle.integers.proofs.Floor.{floor_none}
 use Rattle.words.specs.Formats.{narrower_check}
 use Rattle.words.specs.HalfUnit.{half_unit_value, half_unit_check}
-use Rattle.words.specs.declared.Outcome.TheVariants.{Done}
-use Rattle.words.specs.declared.HalfUnitWord.{HalfUnitWord}
+use Rattle.words.specs.Outcomes.{Done}
+use Rattle.words.specs.Kinds.{HalfUnitWord}
 use Rattle.words.proofs.Laws.{half_unit_right}
 use Rattle.words.proofs.Formats.{narrower_none}
 use Rattle.words.proofs.Moves.{MoveLaws, run_claimed}

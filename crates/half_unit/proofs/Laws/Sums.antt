@@ -1,6 +1,7 @@
 -- The two sums and the product: what they do to values, and to each other. Assumes nothing.
 -- Proved here: `sum_up_closed`, `sum_even_closed`, `product_closed`, `sum_up_value`, `sum_even_value`, `sum_even_lowest`, `sum_up_comm`,
 -- `sum_even_comm`, `sum_same_outcome`, `product_value`, `product_comm`.
+use Rattle.std.specs.Prelude.{Ok, Err}
 use Prim.Native.Nat.{suc, ◌+◌, ◌-◌}
 use native.Mathlib.Omega.{arith}
 use mathlib.Core.Path.{◌≡◌, refl, sym}
@@ -15,9 +16,9 @@ use Rattle.words.specs.Refusals.{refuse}
 use Rattle.words.specs.Formats.{answer_check}
 use Rattle.words.specs.HalfUnit.{half_unit_value, half_unit_check, half_unit_refused, half_unit_done, half_unit_fitted, ◌and_then◌}
 use Rattle.words.specs.declared.Format.{Format}
-use Rattle.words.specs.declared.Outcome.{Outcome}
-use Rattle.words.specs.declared.Outcome.TheVariants.{Done, Refused}
-use Rattle.words.specs.declared.HalfUnitWord.{HalfUnitWord}
+use Rattle.words.specs.Outcomes.{Outcome}
+use Rattle.words.specs.Outcomes.{Done, Refused}
+use Rattle.words.specs.Kinds.{HalfUnitWord}
 use Rattle.words.proofs.Laws.{RightFormat, Right, half_unit_passes, half_unit_law}
 use Rattle.words.proofs.Formats.{answer_right, answer_done}
 use Rattle.words.proofs.Operands.{both_right, right_both, operands_right, right_operands, fit_passes, done_passed, done_fits, outcome_kept}
@@ -152,11 +153,11 @@ unfolding sum_even_word sum_up_word
 sum_same_outcome x y = go (sum_check x y) refl
   where
     go : (o : Outcome) → sum_check x y ≡ o → (o and_then half_unit_fitted (sum_even_word x y)).outcome ≡ (o and_then half_unit_fitted (sum_up_word x y)).outcome
-    go Done c =
+    go (Ok tt) c =
         let s = (sum_up_word x y).number.0 in
         let n = x.format.width in
         rw (fitted_outcome (sum_even_word x y), fitted_outcome (sum_up_word x y), fits_cleared s n (sum_tells x y c).0.format.narrow)
-    go (Refused c) e = refl
+    go (Err c) e = refl
 
 -- ---- product: exact, in halves of the product's unit, and commutative
 pub product_value : (x y : HalfUnitWord) → (product_of x y).outcome ≡ Done → half_unit_value (product_of x y).word ≡ half_unit_value x *ℤ half_unit_value y

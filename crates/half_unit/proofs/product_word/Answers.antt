@@ -7,8 +7,8 @@ use mathlib.Core.Path.{◌≡◌}
 use lib.Pow.{pow-add, pow_mono}
 use lib.Signed.{mag}
 use mir.Facts.{to_z-of_z}
-use Rattle.words.specs.declared.Outcome.TheVariants.{Done}
-use Rattle.words.specs.declared.HalfUnitWord.{HalfUnitWord}
+use Rattle.words.specs.Outcomes.{Done}
+use Rattle.words.specs.Kinds.{HalfUnitWord}
 use Rattle.words.proofs.Laws.{half_unit_right, machine}
 use Rattle.words.proofs.Formats.{answer_right}
 use Rattle.half_unit.specs.Arithmetic.{product_format, product_check, product_word}

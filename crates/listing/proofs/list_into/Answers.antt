@@ -1,5 +1,6 @@
 -- The buffer holds any listing, so `list` never refuses here: what is handed on is the listing, whole, and its
 -- first byte tells whether the file was refused.
+use Rattle.std.specs.Prelude.{Ok, Err}
 use Prim.Native.Nat.{ℕ}
 use native.Mathlib.Omega.{arith}
 use mathlib.Core.Path.{◌≡◌, refl, sym}
@@ -12,8 +13,8 @@ use lib.Seq.{take_at}
 use borrow.Author.Tests.{le-ltb}
 use Rattle.integers.specs.Lists.{at_front}
 use Rattle.io.proofs.Counting.{prefix_len_of_le}
-use Rattle.words.specs.declared.Outcome.{Outcome}
-use Rattle.words.specs.declared.Outcome.TheVariants.{Done, Refused}
+use Rattle.words.specs.Outcomes.{Outcome}
+use Rattle.words.specs.Outcomes.{Done, Refused}
 use Rattle.words.specs.declared.WriteAnswer.{WriteAnswer}
 use Rattle.words.specs.Refusals.{write_answer, lent_after}
 use Rattle.block_file.specs.declared.Head.{Head}
@@ -36,8 +37,8 @@ tells text = eqb (get_or text 0 0) 114
 first_of : (o : Outcome) (h : Head) (x : ℕ → ℤ) (r : ℕ → ℕ) (more : List ℕ) →
     (tells (listed o h x r ++ more) ≡ false → o ≡ Done) × (o ≡ Done → tells (listed o h x r ++ more) ≡ false)
 unfolding listed head_line refused_line
-first_of Done h x r more = (λ e. refl, λ e. simp append_assoc (first-of-kind _ _))
-first_of (Refused c) h x r more = (λ e. cc, λ e. cc)
+first_of (Ok tt) h x r more = (λ e. refl, λ e. simp append_assoc (first-of-kind _ _))
+first_of (Err c) h x r more = (λ e. cc, λ e. cc)
 
 module _ (file text : List ℕ) (long : length text ≡ longest_listing) where
   roomy : room_check file (length text) ≡ Done

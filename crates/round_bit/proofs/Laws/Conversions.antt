@@ -14,9 +14,9 @@ use Rattle.words.specs.Words.{value}
 use Rattle.words.specs.Refusals.{refuse}
 use Rattle.words.specs.Plain.{plain_value, plain_check, plain_refused, plain_done, plain_fitted}
 use Rattle.words.specs.RoundBit.{round_bit_value, round_bit_check}
-use Rattle.words.specs.declared.Outcome.TheVariants.{Done}
-use Rattle.words.specs.declared.PlainWord.{PlainWord}
-use Rattle.words.specs.declared.RoundBitWord.{RoundBitWord}
+use Rattle.words.specs.Outcomes.{Done}
+use Rattle.words.specs.Kinds.{PlainWord}
+use Rattle.words.specs.Kinds.{RoundBitWord}
 use Rattle.words.proofs.Laws.{right, word_right}
 use Rattle.words.proofs.Operands.{fit_passes, done_fits}
 use Rattle.round_bit.specs.Arithmetic.{to_plain_word, to_plain_of, from_plain_word, from_plain_of}

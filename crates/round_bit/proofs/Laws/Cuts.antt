@@ -17,8 +17,8 @@ use Rattle.words.specs.Words.{value}
 use Rattle.words.specs.Words.Kind.{round_bit}
 use Rattle.words.specs.Formats.{narrower, narrower_check}
 use Rattle.words.specs.RoundBit.{round_bit_value, round_bit_check, round_bit_done}
-use Rattle.words.specs.declared.Outcome.TheVariants.{Done}
-use Rattle.words.specs.declared.RoundBitWord.{RoundBitWord}
+use Rattle.words.specs.Outcomes.{Done}
+use Rattle.words.specs.Kinds.{RoundBitWord}
 use Rattle.words.proofs.Laws.{both_pass, RightRoundBit, round_bit_right, round_bit_passes, round_bit_law}
 use Rattle.words.proofs.Formats.{narrower_none, narrower_passes, narrower_first, narrower_then, narrower_narrower}
 use Rattle.words.proofs.Rights.{nothing_right, floor_right, low_right}

@@ -20,8 +20,8 @@ use Rattle.integers.proofs.Ties.{middle_digits, digits_middle}
 use Rattle.words.specs.Words.{value}
 use Rattle.words.specs.Words.Kind.{round_bit}
 use Rattle.words.specs.RoundBit.{round_bit_value, round_bit_check, round_bit_done, ◌and_then◌}
-use Rattle.words.specs.declared.Outcome.TheVariants.{Done}
-use Rattle.words.specs.declared.RoundBitWord.{RoundBitWord}
+use Rattle.words.specs.Outcomes.{Done}
+use Rattle.words.specs.Kinds.{RoundBitWord}
 use Rattle.words.proofs.Laws.{RightRoundBit, round_bit_passes, round_bit_law}
 use Rattle.words.proofs.Rights.{floor_right}
 use Rattle.round_bit.specs.declared.CutAnswer.{CutAnswer}

@@ -9,8 +9,8 @@ use Rattle.words.specs.RoundBit.{round_bit_value, round_bit_check}
 use Rattle.words.specs.Refusals.{format_check, word_check}
 use Rattle.words.specs.Formats.{narrower_check}
 use Rattle.words.specs.Flat.{round_bit_at as at}
-use Rattle.words.specs.declared.Outcome.TheVariants.{Done}
-use Rattle.words.specs.declared.RoundBitWord.{RoundBitWord}
+use Rattle.words.specs.Outcomes.{Done}
+use Rattle.words.specs.Kinds.{RoundBitWord}
 use Rattle.words.proofs.Laws.{round_bit_right, round_bit_passes}
 use Rattle.words.proofs.Formats.{narrower_then}
 use Rattle.words.proofs.Moves.{MoveLaws, run_claimed}

@@ -9,9 +9,9 @@ use Rattle.integers.proofs.Times.{times_assoc}
 use Rattle.words.specs.Words.{value}
 use Rattle.words.specs.Formats.{answer_check}
 use Rattle.words.specs.RoundBit.{round_bit_value, round_bit_check, round_bit_done}
-use Rattle.words.specs.declared.Outcome.TheVariants.{Done}
+use Rattle.words.specs.Outcomes.{Done}
 use Rattle.words.specs.declared.Format.{Format}
-use Rattle.words.specs.declared.RoundBitWord.{RoundBitWord}
+use Rattle.words.specs.Kinds.{RoundBitWord}
 use Rattle.words.proofs.Laws.{Right, word_right, RightFormat}
 use Rattle.words.proofs.Operands.{both_right, right_both}
 use Rattle.words.proofs.Formats.{answer_right, answer_done}

@@ -15,9 +15,9 @@ use Rattle.words.specs.Words.{value}
 use Rattle.words.specs.Words.Kind.{round_bit}
 use Rattle.words.specs.RoundBit.{round_bit_value, round_bit_check}
 use Rattle.words.specs.declared.Format.{Format}
-use Rattle.words.specs.declared.Outcome.TheVariants.{Done}
+use Rattle.words.specs.Outcomes.{Done}
 use Rattle.words.specs.declared.RoundBit.{RoundBit}
-use Rattle.words.specs.declared.RoundBitWord.{RoundBitWord}
+use Rattle.words.specs.Kinds.{RoundBitWord}
 use Rattle.words.proofs.Laws.{Right, round_bit_right, round_bit_law, word_right, three_passed}
 use Rattle.round_bit.specs.Cuts.{sign_changed, sign_change_word, sign_change_of}
 use Rattle.round_bit.specs.Arithmetic.{sum_check, sign_changed_if, magnitude}

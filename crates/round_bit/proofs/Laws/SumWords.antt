@@ -8,7 +8,7 @@ use Rattle.integers.proofs.Times.{times_plus}
 use Rattle.words.specs.Words.{value}
 use Rattle.words.specs.RoundBit.{round_bit_value}
 use Rattle.words.specs.declared.RoundBit.{RoundBit}
-use Rattle.words.specs.declared.RoundBitWord.{RoundBitWord}
+use Rattle.words.specs.Kinds.{RoundBitWord}
 use Rattle.round_bit.specs.Arithmetic.{added, sum_word}
 use Rattle.round_bit.proofs.Laws.Added.{added_value, added_bit, added_comm, counted_one, counted_both}
 

@@ -12,8 +12,8 @@ use Rattle.integers.proofs.Times.{times_plus, times_neg}
 use Rattle.words.specs.Words.{value}
 use Rattle.words.specs.RoundBit.{round_bit_word, round_bit_value, round_bit_check, round_bit_refused, round_bit_done, round_bit_fitted, ◌and_then◌}
 use Rattle.words.specs.declared.Format.{Format}
-use Rattle.words.specs.declared.Outcome.TheVariants.{Done}
-use Rattle.words.specs.declared.RoundBitWord.{RoundBitWord}
+use Rattle.words.specs.Outcomes.{Done}
+use Rattle.words.specs.Kinds.{RoundBitWord}
 use Rattle.words.proofs.Laws.{right, word_right, RightRoundBit}
 use Rattle.words.proofs.Rights.{nothing_right}
 use Rattle.words.proofs.Operands.{operands_right, right_operands, fit_passes, done_fits}

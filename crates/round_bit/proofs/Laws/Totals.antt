@@ -13,7 +13,7 @@ use lib.IntN.{ℤ, ℤ_set, pos, ◌+ℤ◌, +ℤ_assoc, +ℤ_idl}
 use Rattle.integers.specs.Lists.Each.{next}
 use Rattle.integers.proofs.Kit.{ints, plus_law}
 use Rattle.words.specs.declared.Format.{Format}
-use Rattle.words.specs.declared.RoundBitWord.{RoundBitWord}
+use Rattle.words.specs.Kinds.{RoundBitWord}
 use Rattle.words.proofs.Laws.{round_bit_right}
 use Rattle.round_bit.specs.Groupings.{total_of, round_bits, some_round_bit, EachRight}
 

@@ -9,8 +9,8 @@ use Rattle.integers.proofs.Floor.{floor_none, floor_widened}
 use Rattle.integers.proofs.Digits.{digit_widened}
 use Rattle.words.specs.Formats.{wider}
 use Rattle.words.specs.RoundBit.{round_bit_value, round_bit_check, round_bit_done}
-use Rattle.words.specs.declared.Outcome.TheVariants.{Done}
-use Rattle.words.specs.declared.RoundBitWord.{RoundBitWord}
+use Rattle.words.specs.Outcomes.{Done}
+use Rattle.words.specs.Kinds.{RoundBitWord}
 use Rattle.words.proofs.Laws.{RightFormat, RightRoundBit, round_bit_passes, round_bit_law}
 use Rattle.words.proofs.Formats.{narrower_none, narrower_passes, narrower_wider}
 use Rattle.words.proofs.Rights.{widened_right}

@@ -1,7 +1,7 @@
 use mathlib.Core.Path.{◌≡◌, sym, ◌∙◌}
 use Rattle.round_bit.specs.Arithmetic.{sum_check}
 use Rattle.words.proofs.Arms.{arms}
-use Rattle.words.specs.declared.Outcome.TheVariants.{Done}
+use Rattle.words.specs.Outcomes.{Done}
 use Rattle.round_bit.proofs.Checks.{sum_passed}
 use Rattle.round_bit.proofs.Laws.Signs.{sum_sign_passed}
 use Rattle.round_bit.proofs.difference.Goals as goal

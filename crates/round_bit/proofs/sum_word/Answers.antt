@@ -2,8 +2,8 @@ use mathlib.Core.Path.{◌≡◌}
 use native.Mathlib.Omega.{arith}
 use lib.Bits.{bit_and, and_le_l}
 use mir.Facts.{to_z-of_z}
-use Rattle.words.specs.declared.RoundBitWord.{RoundBitWord}
-use Rattle.words.specs.declared.Outcome.TheVariants.{Done}
+use Rattle.words.specs.Kinds.{RoundBitWord}
+use Rattle.words.specs.Outcomes.{Done}
 use Rattle.words.proofs.Laws.{round_bit_right}
 use Rattle.words.proofs.Operands.{Sums, sums}
 use Rattle.round_bit.specs.Arithmetic.{sum_word, sum_check}

@@ -6,8 +6,8 @@ use lib.Pow.{pow_mono}
 use lib.Signed.{mag}
 use mir.Facts.{to_z-of_z}
 use Rattle.words.specs.Formats.{wider}
-use Rattle.words.specs.declared.Outcome.TheVariants.{Done}
-use Rattle.words.specs.declared.RoundBitWord.{RoundBitWord}
+use Rattle.words.specs.Outcomes.{Done}
+use Rattle.words.specs.Kinds.{RoundBitWord}
 use Rattle.words.proofs.Laws.{round_bit_right}
 use Rattle.words.proofs.Formats.{answer_right}
 use Rattle.round_bit.specs.Cuts.{widen_word, widen_check}

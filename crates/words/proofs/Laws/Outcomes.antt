@@ -1,13 +1,14 @@
 -- What "done" says of a test, and of two and three outcomes: `refused_not_done`, `passed`, `both_passed`, `three_passed`,
 -- `both_pass`, `or-false`. Assumes nothing.
+use Rattle.std.specs.Prelude.{Ok, Err}
 use Prim.Native.Nat.{ℕ}
 use native.Mathlib.Omega.{arith}
 use mathlib.Core.Path.{◌≡◌, refl}
 use mathlib.Core.Bool.{Bool, true, false, ◌||◌}
 use Rattle.words.specs.Refusals.{refuse_for, ◌or_else◌}
 use Rattle.words.specs.declared.Cause.{Cause}
-use Rattle.words.specs.declared.Outcome.{Outcome}
-use Rattle.words.specs.declared.Outcome.TheVariants.{Done, Refused}
+use Rattle.words.specs.Outcomes.{Outcome}
+use Rattle.words.specs.Outcomes.{Done, Refused}
 
 pub refused_not_done : {c : Cause} → Refused c ≡ Done → ⊥
 refused_not_done e = let z : ◌≡◌ {A = ℕ} 0 1 = cc in omega arith
@@ -17,8 +18,8 @@ passed c true e = absurd (refused_not_done e)
 passed c false e = refl
 
 pub both_passed : (o p : Outcome) → (o or_else p) ≡ Done → (o ≡ Done) × (p ≡ Done)
-both_passed Done p e = (refl, e)
-both_passed (Refused c) p e = absurd (refused_not_done e)
+both_passed (Ok tt) p e = (refl, e)
+both_passed (Err c) p e = absurd (refused_not_done e)
 
 pub three_passed : (o p q : Outcome) → (o or_else p or_else q) ≡ Done → (o ≡ Done) × (p ≡ Done) × (q ≡ Done)
 three_passed o p q e =

@@ -20,14 +20,14 @@ use Rattle.integers.proofs.Width.{lies_true, lies_low, lies_high, fits_size, by_
 use Rattle.words.specs.Words.{bad_width, bad_unit, outside, bad_round_bit}
 use Rattle.words.specs.Refusals.{refuse_for, format_check, word_check, blank_format}
 use Rattle.words.specs.declared.Cause.TheVariants.{Width, Unit, Number}
-use Rattle.words.specs.declared.Outcome.TheVariants.{Done}
+use Rattle.words.specs.Outcomes.{Done}
 use Rattle.words.specs.Plain.{plain_check}
 use Rattle.words.specs.RoundBit.{round_bit_check}
 use Rattle.words.specs.HalfUnit.{half_unit_check}
 use Rattle.words.specs.declared.Format.{Format}
-use Rattle.words.specs.declared.PlainWord.{PlainWord}
-use Rattle.words.specs.declared.RoundBitWord.{RoundBitWord}
-use Rattle.words.specs.declared.HalfUnitWord.{HalfUnitWord}
+use Rattle.words.specs.Kinds.{PlainWord}
+use Rattle.words.specs.Kinds.{RoundBitWord}
+use Rattle.words.specs.Kinds.{HalfUnitWord}
 use Rattle.words.proofs.Laws.Outcomes.{passed, both_passed, or-false}
 
 -- ---- a width that 1 does not refuse lies between the ends that it asks for
@@ -100,28 +100,22 @@ blank_right = refl
 
 -- ---- the same of each kind of word, both ways
 pub plain_right : (w : PlainWord) → plain_check w ≡ Done → Right w.format w.number.0 0
-unfolding plain_check
 plain_right w e = right w.format w.number.0 0 e
 
 pub plain_passes : (w : PlainWord) → Right w.format w.number.0 0 → plain_check w ≡ Done
-unfolding plain_check
 plain_passes w g = word_right w.format w.number.0 0 g
 
 abbrev pub RightRoundBit : RoundBitWord → Type 0
 RightRoundBit w = Right w.format w.number.0 w.number.1
 
 pub round_bit_right : (w : RoundBitWord) → round_bit_check w ≡ Done → RightRoundBit w
-unfolding round_bit_check
 round_bit_right w e = right w.format w.number.0 w.number.1 e
 
 pub round_bit_passes : (w : RoundBitWord) → RightRoundBit w → round_bit_check w ≡ Done
-unfolding round_bit_check
 round_bit_passes w g = word_right w.format w.number.0 w.number.1 g
 
 pub half_unit_right : (w : HalfUnitWord) → half_unit_check w ≡ Done → Right w.format w.number.0 0
-unfolding half_unit_check
 half_unit_right w e = right w.format w.number.0 0 e
 
 pub half_unit_passes : (w : HalfUnitWord) → Right w.format w.number.0 0 → half_unit_check w ≡ Done
-unfolding half_unit_check
 half_unit_passes w g = word_right w.format w.number.0 0 g

@@ -1,5 +1,6 @@
 -- The table of refusals, whose numbers may leave gaps: `number_of_cause`, `cause_of_number`, `cause_some`, `cause_small`,
 -- `cause_one`. What a test says of every row holds of the row that is found, by one argument over the rows. Assumes nothing.
+use Rattle.std.specs.Prelude.{Ok, Err}
 use Prim.Native.Nat.{ℕ, ◌≤◌}
 use mathlib.Core.Path.{◌≡◌, refl, sym, ap, ◌∙◌}
 use mathlib.Core.Bool.{Bool, true, false, ◌&&◌}
@@ -12,8 +13,8 @@ use Rattle.words.specs.declared.Cause.{Cause}
 use Rattle.words.specs.declared.Cause.TheVariants.{Width, Unit, Number, Mismatch}
 use Rattle.words.specs.declared.Cause.TheVariants.{Depth, WidthPast, UnitPast, NumberPast}
 use Rattle.words.specs.declared.Cause.TheVariants.{DigitText, Buffer, Mark, Form, Byte, Run, NotFinite, Channel}
-use Rattle.words.specs.declared.Outcome.{Outcome}
-use Rattle.words.specs.declared.Outcome.TheVariants.{Done, Refused}
+use Rattle.words.specs.Outcomes.{Outcome}
+use Rattle.words.specs.Outcomes.{Refused}
 use Rattle.words.proofs.Laws.Outcomes.{refused_not_done}
 
 -- the test holds of every row
@@ -23,8 +24,8 @@ every test (c ∷ more) = test c && every test more
 
 -- the cause of a refusal, and some other of done
 abbrev pub found : Cause → Outcome → Cause
-found d Done = d
-found d (Refused c) = c
+found d (Ok tt) = d
+found d (Err c) = c
 
 module _ (test : Cause → Bool) where
   row_has : (l : List Cause) (n : ℕ) (c : Cause) → every test l ≡ true → row_in l n ≡ Refused c → (cause_number c ≡ n) × (test c ≡ true)

@@ -6,8 +6,8 @@ use Rattle.words.specs.declared.Cause.TheVariants.{Depth}
 use Rattle.words.proofs.Laws.{passed}
 use lib.Dec.{eqb}
 use Rattle.words.specs.Refusals.{refuse_for}
-use Rattle.words.specs.declared.Outcome.{Outcome}
-use Rattle.words.specs.declared.Outcome.TheVariants.{Done}
+use Rattle.words.specs.Outcomes.{Outcome}
+use Rattle.words.specs.Outcomes.{Done}
 use Rattle.round_bit.specs.Cuts.{cut_and_rest_of}
 use Rattle.round_bit.specs.declared.CutAndRestAnswer.{CutAndRestAnswer}
 use Rattle.running_sum.specs.declared.RunningSum.{RunningSum}
