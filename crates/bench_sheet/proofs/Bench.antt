@@ -31,7 +31,7 @@ use Rattle.words.specs.declared.Format.{Format}
 use Rattle.words.specs.Kinds.{RoundBitWord}
 use Rattle.words.specs.declared.WriteAnswer.{WriteAnswer}
 use Rattle.words.proofs.Flat.{same_flat_lem}
-use Rattle.round_bit.specs.declared.CutAnswer.{CutAnswer}
+use Rattle.words.specs.Kinds.{RoundBitCutAnswer}
 use Rattle.round_bit.specs.Cuts.{sign_change_word, cut_by, cut_word, cut_check, cut_of}
 use Rattle.round_bit.specs.Cuts.{rest_word, even_round_bit, widen_word}
 use Rattle.round_bit.specs.Arithmetic.{sum_word, magnitude_product, multiplied, product_word}
@@ -59,14 +59,7 @@ use Rattle.bench_sheet.specs.Met.{Answers, Runs, Met, EveryCut}
 -- the later examples
 bench_holds : (length bench ≡ 14) × (every (every right) bench ≡ true)
     × (every (every right) requested ≡ true)
-unfolding fits_width floor_by lowest cleared digit digits_below any_below low_digits value format_check
-    word_check narrower_check answer_check plain_check round_bit_check round_bit_fitted half_unit_check
-    half_unit_fitted lent_after write_answer sign_change_word cut_by rest_word even_round_bit widen_word
-    sum_word magnitude_product multiplied product_word from_plain_up_word even_floor from_plain_even_word
-    sum_up_word sum_even_word half_multiplied half_product_word signed_digit byte_of byte_at text_of
-    write_check write_of buffer_of depth_check open_answer open_of stepped put_check step_of first_bad
-    digit_of text_value sign_before strange_at repeats_at strange_place repeat_place fault_check read_check
-    place_of read_round read_word read_of
+unfolding fits_width floor_by lowest cleared digit digits_below any_below low_digits value format_check word_check narrower_check answer_check round_bit_fitted half_unit_fitted lent_after write_answer sign_change_word cut_by rest_word even_round_bit widen_word sum_word magnitude_product multiplied product_word from_plain_up_word even_floor from_plain_even_word sum_up_word sum_even_word half_multiplied half_product_word signed_digit byte_of byte_at text_of write_check write_of buffer_of depth_check open_answer open_of stepped put_check step_of first_bad digit_of text_value sign_before strange_at repeats_at strange_place repeat_place fault_check read_check place_of read_round read_word read_of
 bench_holds = (refl, refl, refl)
 
 -- ---- from the definitions to the contracts: a contract says that the answer is the definition's
@@ -182,7 +175,7 @@ width_3_cuts_at_127 w e g = (cut_outcome w 1 e g, cut_outcome w 2 e g)
 -- the same of the code, by the numbers of the outcomes
 every_cut : (f : Format) (d : ℕ) → EveryCut f d (number_of (narrower_check f d))
 every_cut f d w e g r x p =
-    ap (λ (a : CutAnswer). number_of a.outcome) p ∙ ap number_of (cut_outcome w d e g)
+    ap (λ (a : RoundBitCutAnswer). number_of a.outcome) p ∙ ap number_of (cut_outcome w d e g)
 
 width_3_cuts_met : EveryCut (format 3 (pos 0)) 1 0 × EveryCut (format 3 (pos 0)) 2 5
 unfolding narrower_check

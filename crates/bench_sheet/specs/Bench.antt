@@ -16,8 +16,7 @@ use Rattle.words.specs.Refusals.{number_of}
 use Rattle.words.specs.RoundBit.{round_bit_value}
 use Rattle.words.specs.Flat.{Flat, flat, laid_flat, flat_round_bit, flat_half_unit, same_flat}
 use Rattle.words.specs.Flat.{plain_at, round_bit_at, half_unit_at, done, refused}
-use Rattle.round_bit.specs.declared.CutAnswer.{CutAnswer}
-use Rattle.round_bit.specs.declared.EvenCutAnswer.{EvenCutAnswer}
+use Rattle.words.specs.Kinds.{RoundBitCutAnswer}
 use Rattle.round_bit.specs.Cuts.{cut_of, rest_of, even_cut_of, widen_of}
 use Rattle.round_bit.specs.Arithmetic.{sum_word, sum_of, difference_of, product_of}
 use Rattle.half_unit.specs.Conversions.{from_plain_up_of, from_plain_even_of}
@@ -31,10 +30,10 @@ use Rattle.running_sum.specs.Steps.{Call, put, hand_out, open_of, step_of}
 abbrev pub flat_of : Outcome → RoundBitWord → Flat
 flat_of o w = laid_flat o w.number.0 w.number.1 w.format
 
-abbrev pub flat_cut : CutAnswer → Flat
+abbrev pub flat_cut : RoundBitCutAnswer → Flat
 flat_cut a = flat_of a.outcome a.word
 
-abbrev pub flat_even_cut : EvenCutAnswer → Flat
+abbrev pub flat_even_cut : RoundBitCutAnswer → Flat
 flat_even_cut a = flat_of a.outcome a.word
 
 abbrev pub flat_word : RoundBitWord → Flat

@@ -9,7 +9,7 @@ use Rattle.words.specs.Formats.{format}
 use Rattle.words.specs.RoundBit.{round_bit_value, round_bit_check}
 use Rattle.round_bit.specs.Cuts.{cut_of}
 use Rattle.round_bit.specs.Arithmetic.{sum_of, product_of}
-use Rattle.round_bit.specs.declared.CutAnswer.{CutAnswer}
+use Rattle.words.specs.Kinds.{RoundBitCutAnswer}
 use Rattle.filter_bank.specs.Bank.{cut_depth, row_of, extended, total, output_word}
 use Rattle.filter_bank.specs.Bank.{products_unit, output_answer, channel_output_of, output_of}
 
@@ -65,7 +65,7 @@ module _ (taps window : List RoundBitWord) where
   summands = extended_words (product_answers taps window)
 
   -- the last of the operations is the cut of the last sum
-  abbrev pub last_cut : CutAnswer
+  abbrev pub last_cut : RoundBitCutAnswer
   last_cut = cut_of (last_sum summands) cut_depth
 
   -- the output's value less the exact sum, in quarters again

@@ -14,7 +14,7 @@ use Rattle.integers.proofs.Floor.{floor_none}
 use Rattle.words.specs.Formats.{narrower, narrower_check, wider, answer_check}
 use Rattle.words.specs.RoundBit.{round_bit_word, round_bit_check, round_bit_refused, round_bit_done, ◌and_then◌}
 use Rattle.words.specs.Outcomes.{Outcome}
-use Rattle.words.specs.Outcomes.{Done, Refused}
+use Rattle.words.specs.Outcomes.{Done}
 use Rattle.words.specs.declared.Format.{Format}
 use Rattle.words.specs.Kinds.{RoundBitWord}
 use Rattle.words.proofs.Laws.{refused_not_done, both_passed, three_passed}

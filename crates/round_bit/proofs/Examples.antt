@@ -7,7 +7,7 @@ use Rattle.words.specs.Refusals.{format_check, word_check}
 use Rattle.words.specs.declared.Cause.TheVariants.{NumberPast}
 use Rattle.words.specs.Formats.{format, answer_check}
 use Rattle.words.specs.Plain.{plain_refused, plain_fitted}
-use Rattle.words.specs.RoundBit.{round_bit_word, round_bit_check, round_bit_done}
+use Rattle.words.specs.RoundBit.{round_bit_word, round_bit_done}
 use Rattle.words.specs.Flat.{round_bit_at as at}
 use Rattle.round_bit.specs.Cuts.{sign_change_word, cut_by, even_round_bit, even_cut_word}
 use Rattle.round_bit.specs.Arithmetic.{sum_word, magnitude_product, multiplied, product_word, product_of, to_plain_word, to_plain_of}
@@ -15,7 +15,7 @@ use Rattle.round_bit.specs.Arithmetic.{sum_word, magnitude_product, multiplied, 
 -- "Widths 32 and 32: round-bit product done at 63"; "(15,1) to plain: 8."
 widths : (product_of (at 32 (pos 0) 0) (at 32 (pos 0) 0) ≡ round_bit_done (at 63 (pos 0) 0))
     × (to_plain_of (at 5 (pos 15) 1) ≡ plain_refused NumberPast)
-unfolding fits_width format_check word_check answer_check plain_fitted round_bit_check magnitude_product multiplied product_word to_plain_word
+unfolding fits_width format_check word_check answer_check plain_fitted magnitude_product multiplied product_word to_plain_word
 widths = (refl, refl)
 
 -- "-( (0,0)+(0,1) ) is (-1,0), but the sum of the sign-changed words is (-2,1)."

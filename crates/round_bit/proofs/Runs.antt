@@ -21,8 +21,9 @@ use Rattle.words.specs.Outcomes.{Done}
 use Rattle.words.specs.Kinds.{RoundBitWord}
 use Rattle.words.proofs.Moves.{move_done}
 use Rattle.words.proofs.Runs.{Run, run, ends_in, all_runs}
-use Rattle.round_bit.specs.declared.EvenCutAnswer.{EvenCutAnswer}
-use Rattle.round_bit.specs.Cuts.{sign_change_word, cut_by, cut_of, even_round_bit, even_cut_answer, even_cut_of}
+use Rattle.words.specs.Kinds.{RoundBitCutAnswer}
+use Rattle.words.specs.Answers.{cut_answer}
+use Rattle.round_bit.specs.Cuts.{sign_change_word, cut_by, cut_of, even_round_bit, even_cut_of}
 use Rattle.round_bit.specs.Moves.{moved, ran}
 
 abbrev flat_word : Outcome → RoundBitWord → Flat
@@ -82,45 +83,45 @@ wrong =
     ∷ []
 
 ends_right : all_runs ends (run near_end [] (refused 0)) right ≡ true
-unfolding first_bad fits_width floor_by lowest digit format_check word_check narrower_check round_bit_check ran_by sign_change_word cut_by
+unfolding first_bad fits_width floor_by lowest digit format_check word_check narrower_check ran_by sign_change_word cut_by
 ends_right = refl
 
 ends_wrong : all_runs (λ r. not (ends r)) (run near_end [] (refused 0)) wrong ≡ true
-unfolding first_bad fits_width floor_by lowest digit format_check word_check narrower_check round_bit_check ran_by sign_change_word cut_by
+unfolding first_bad fits_width floor_by lowest digit format_check word_check narrower_check ran_by sign_change_word cut_by
 ends_wrong = refl
 
 -- ---- why a run stops at a refusal: the blank word that a refused move answers is a right one, so whoever goes on from it is told done
 blank_goes_on : let refused = ran (at 4 (pos 5) 1) (cut 1 ∷ cut 2 ∷ []) in
     (number_of refused.outcome ≡ 5) × (moved refused.word sign_change ≡ move_done (round_bit_word (negsuc 0) 1 (format 2 (pos 0))))
-unfolding fits_width floor_by lowest digit format_check word_check narrower_check round_bit_check ran_by sign_change_word cut_by
+unfolding fits_width floor_by lowest digit format_check word_check narrower_check ran_by sign_change_word cut_by
 blank_goes_on = (refl, refl)
 
 -- ---- (1,0) by 1 is (0,1): 1 unit came out as 2, which is just half of the new one. So "within" cannot be made strict
 just_half : far_from round_bit_value (at 5 (pos 1) 0) (cut 1 ∷ []) (ran (at 5 (pos 1) 0) (cut 1 ∷ [])).word ≡ half_its_unit (cut 1 ∷ [])
-unfolding value fits_width floor_by lowest digit format_check word_check narrower_check round_bit_check ran_by cut_by depths turns is_odd
+unfolding value fits_width floor_by lowest digit format_check word_check narrower_check ran_by cut_by depths turns is_odd
 just_half = refl
 
 not_strictly :
     ((w : RoundBitWord) (moves : List Move) → round_bit_check w ≡ Done → ClaimedBy moved round_bit_value (λ v. v.format) Closer w moves (ran w moves)) → ⊥
-unfolding fits_width floor_by lowest digit format_check word_check round_bit_check depths
+unfolding fits_width floor_by lowest digit format_check word_check depths
 not_strictly strict =
     let near = ((strict (at 5 (pos 1) 0) (cut 1 ∷ []) refl).provided (record { digits = omega arith; range = refl })).near in
     omega (arith, near, just_half)
 
 -- ---- even cuts
-abbrev even_done : ℤ → ℕ → Format → EvenCutAnswer
-even_done a r f = even_cut_answer (round_bit_done (round_bit_word a r f))
+abbrev even_done : ℤ → ℕ → Format → RoundBitCutAnswer
+even_done a r f = cut_answer (round_bit_done (round_bit_word a r f))
 
 -- (2,1) at width 4: cut by 1 it is (1,0), and even cut by 1 then (0,0); even cut at once by 2 it is (0,1)
 cut_then_even : (even_cut_of (cut_of (at 4 (pos 2) 1) 1).word 1 ≡ even_done (pos 0) 0 (format 2 (pos 2)))
     × (even_cut_of (at 4 (pos 2) 1) 2 ≡ even_done (pos 0) 1 (format 2 (pos 2)))
-unfolding fits_width floor_by lowest digit format_check word_check narrower_check round_bit_check cut_by even_round_bit
+unfolding fits_width floor_by lowest digit format_check word_check narrower_check cut_by even_round_bit
 cut_then_even = (refl, refl)
 
 -- (5,0) at width 5: even cut by 1 it is (2,0), and by 2 then (0,0); at once by 3 it is (0,1)
 even_then_even : (even_cut_of (even_cut_of (at 5 (pos 5) 0) 1).word 2 ≡ even_done (pos 0) 0 (format 2 (pos 3)))
     × (even_cut_of (at 5 (pos 5) 0) 3 ≡ even_done (pos 0) 1 (format 2 (pos 3)))
-unfolding fits_width floor_by lowest digit format_check word_check narrower_check round_bit_check cut_by even_round_bit
+unfolding fits_width floor_by lowest digit format_check word_check narrower_check cut_by even_round_bit
 even_then_even = (refl, refl)
 
 -- every word of width 4, by 1 and 1, the only two cuts that it takes: there an even cut after an even cut is one still
@@ -132,5 +133,5 @@ twice k r =
     same_flat (flat_word a.outcome a.word) (flat_word b.outcome b.word)
 
 even_twice_at_4 : all 16 (λ k. all 2 (twice k)) ≡ true
-unfolding first_bad fits_width floor_by lowest digit format_check word_check narrower_check round_bit_check cut_by even_round_bit
+unfolding first_bad fits_width floor_by lowest digit format_check word_check narrower_check cut_by even_round_bit
 even_twice_at_4 = refl

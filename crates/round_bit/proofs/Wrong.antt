@@ -10,8 +10,8 @@ use Rattle.integers.specs.Numbers.{fits_width, floor_by, lowest, digit, digits_b
 use Rattle.integers.specs.Lists.{first_bad, all}
 use Rattle.words.specs.Refusals.{format_check, word_check}
 use Rattle.words.specs.Formats.{narrower_check, answer_check}
-use Rattle.words.specs.Plain.{plain_check, plain_fitted}
-use Rattle.words.specs.RoundBit.{round_bit_check, round_bit_fitted}
+use Rattle.words.specs.Plain.{plain_fitted}
+use Rattle.words.specs.RoundBit.{round_bit_fitted}
 use Rattle.words.specs.Flat.{Flat, flat, laid_flat, flat_plain, flat_round_bit, same_flat, plain_at, round_bit_at as at, done, refused}
 use Rattle.words.specs.Kinds.{PlainWord}
 use Rattle.words.specs.Kinds.{RoundBitWord}
@@ -138,7 +138,5 @@ abbrev wrong : List Row
 wrong = stand_ins ++ mistakes
 
 all_wrong : all (length wrong) (λ k. differs (get_or wrong k (to_plain (at 5 (pos 3) 1) (refused 3)))) ≡ true
-unfolding first_bad fits_width floor_by lowest digit digits_below low_digits format_check word_check narrower_check answer_check plain_check plain_fitted
-    round_bit_check round_bit_fitted sign_change_word cut_by rest_word even_round_bit widen_word sum_word magnitude_product multiplied product_word
-    to_plain_word from_plain_word
+unfolding first_bad fits_width floor_by lowest digit digits_below low_digits format_check word_check narrower_check answer_check plain_fitted round_bit_fitted sign_change_word cut_by rest_word even_round_bit widen_word sum_word magnitude_product multiplied product_word to_plain_word from_plain_word
 all_wrong = refl

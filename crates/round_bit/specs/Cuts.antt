@@ -1,17 +1,19 @@
 -- Document 01, "Round-bit words": sign change, cut, rest of a cut, even cut (its rule is Ask 2 of
 -- document 02), widening on the right.
-use Rattle.std.specs.Prelude.{ℕ, zero, suc, ◌-◌, ◌*◌, ◌^◌, Bool, cond, ℤ, pos, ◌+ℤ◌, ◌*ℤ◌}
+use Rattle.std.specs.Prelude.{Result, ℕ, zero, suc, ◌-◌, ◌*◌, ◌^◌, Bool, cond, ℤ, pos, ◌+ℤ◌, ◌*ℤ◌}
 use Rattle.integers.specs.Names.{eq_z, turned, floor_by, lowest, digit, low_digits}
 use Rattle.words.specs.Outcomes.{Outcome}
 use Rattle.words.specs.declared.RoundBit.{RoundBit}
 use Rattle.words.specs.Kinds.{RoundBitWord}
 use Rattle.words.specs.Kinds.{RoundBitAnswer}
+use Rattle.words.specs.declared.Cause.{Cause}
+use Rattle.words.specs.Outcomes.{given}
+use Rattle.words.specs.Answers.{cut_answer}
 use Rattle.words.specs.Refusals.{◌or_else◌}
 use Rattle.words.specs.Formats.{narrower, narrower_check, wider, answer_check}
 use Rattle.words.specs.RoundBit.{round_bit_word, round_bit_check, round_bit_done, ◌and_then◌}
-use Rattle.round_bit.specs.declared.CutAnswer.{CutAnswer}
-use Rattle.round_bit.specs.declared.EvenCutAnswer.{EvenCutAnswer}
-use Rattle.round_bit.specs.declared.CutAndRestAnswer.{CutAndRestAnswer}
+use Rattle.words.specs.Kinds.{RoundBitCutAnswer}
+use Rattle.round_bit.specs.declared.CutAndRest.{CutAndRest}
 
 -- "Sign change: (-1-a, 1-r)."
 abbrev pub sign_changed : RoundBit → RoundBit
@@ -40,11 +42,7 @@ cut_word w d = cut_by digit w d
 abbrev pub cut_check : RoundBitWord → ℕ → Outcome
 cut_check w d = round_bit_check w or_else narrower_check w.format d
 
--- the answer of a cut, and of an even cut, has what any answer has
-abbrev pub cut_answer : RoundBitAnswer → CutAnswer
-cut_answer a = record { outcome = a.outcome; word = a.word }
-
-abbrev pub cut_of : RoundBitWord → ℕ → CutAnswer
+abbrev pub cut_of : RoundBitWord → ℕ → RoundBitCutAnswer
 cut_of w d = cut_answer (cut_check w d and_then round_bit_done (cut_word w d))
 
 -- "Rest of a cut, ..: a round-bit word of the old width and unit."
@@ -58,13 +56,9 @@ rest_word w (suc k) = round_bit_word (low_digits w.number.0 (suc k)) w.number.1 
 abbrev pub rest_of : RoundBitWord → ℕ → RoundBitAnswer
 rest_of w d = cut_check w d and_then round_bit_done (rest_word w d)
 
--- both in one answer: the cut refuses and its rest refuses as it does
-abbrev pub cut_and_rest_answer : RoundBitAnswer → RoundBitAnswer → CutAndRestAnswer
-cut_and_rest_answer a b = record { outcome = a.outcome; word = a.word; rest = b.word }
-
-abbrev pub cut_and_rest_of : RoundBitWord → ℕ → CutAndRestAnswer
-cut_and_rest_of w d =
-    cut_and_rest_answer (cut_check w d and_then round_bit_done (cut_word w d)) (rest_of w d)
+-- both of one check: the cut refuses and its rest refuses as it does
+abbrev pub cut_and_rest_of : RoundBitWord → ℕ → Result CutAndRest Cause
+cut_and_rest_of w d = given (cut_check w d) (record { word = cut_word w d; rest = rest_word w d })
 
 -- "where a + r lies exactly half a new unit above floor(a / 2^d) new units", for d = k + 1
 abbrev pub tied : ℕ → ℤ → ℕ → Bool
@@ -79,11 +73,8 @@ even_round_bit r a k = cond (tied r a k) (lowest (floor_by a (suc k))) (digit a 
 abbrev pub even_cut_word : RoundBitWord → ℕ → RoundBitWord
 even_cut_word w d = cut_by (even_round_bit w.number.1) w d
 
-abbrev pub even_cut_answer : RoundBitAnswer → EvenCutAnswer
-even_cut_answer a = record { outcome = a.outcome; word = a.word }
-
-abbrev pub even_cut_of : RoundBitWord → ℕ → EvenCutAnswer
-even_cut_of w d = even_cut_answer (cut_check w d and_then round_bit_done (even_cut_word w d))
+abbrev pub even_cut_of : RoundBitWord → ℕ → RoundBitCutAnswer
+even_cut_of w d = cut_answer (cut_check w d and_then round_bit_done (even_cut_word w d))
 
 -- "Widen on the right by d: (a * 2^d + r * (2^d - 1), r), width n+d, unit e-d."
 unfoldable pub widen_word : RoundBitWord → ℕ → RoundBitWord

@@ -12,35 +12,23 @@
 ghost use Rattle.std.specs.Prelude.{◌≡◌, ◌+◌, ◌-◌, ◌*◌, ◌^◌, ◌<◌, ◌≤◌, pos, ◌+ℤ◌, ◌*ℤ◌, ◌≤ℤ◌};
 ghost use Rattle.std.specs.Int.Signed.{mag};
 ghost use Rattle.integers.specs.Numbers.{floor_by};
-ghost use Rattle.words.specs.Refusals.{blank_format};
-ghost use Rattle.words.specs.Formats.{narrower, wider, answer_check, format_answer};
-ghost use Rattle.words.specs.RoundBit.{round_bit_check, round_bit_refused, round_bit_done};
-ghost use Rattle.round_bit.specs.Cuts.{sign_changed, sign_change_word, sign_change_of, cut_check, cut_word, cut_answer, cut_of, rest_word, rest_of, cut_and_rest_answer, cut_and_rest_of, even_round_bit, even_cut_word, even_cut_answer, even_cut_of, widen_check, widen_word, widen_of};
+ghost use Rattle.words.specs.Outcomes.{Done, given, ◌then◌};
+ghost use Rattle.words.specs.Words.{outside};
+ghost use Rattle.words.specs.Refusals.{refuse};
+ghost use Rattle.words.specs.Formats.{answer_check};
+ghost use Rattle.words.specs.RoundBit.{round_bit_check};
+ghost use Rattle.words.specs.Plain.{plain_check};
+ghost use Rattle.round_bit.specs.Cuts.{sign_changed, sign_change_word, sign_change_of, cut_check, cut_word, cut_of, rest_word, rest_of, cut_and_rest_of, even_round_bit, even_cut_word, even_cut_of, widen_check, widen_word, widen_of};
 ghost use Rattle.round_bit.specs.Arithmetic.{sum_check, sum_word, sum_of, difference_of, magnitude_product, sign_changed_if, multiplied, product_format, product_check, product_word, product_of, to_plain_word, to_plain_of, from_plain_word, from_plain_of};
 
 use words::{
-    Cause, Format, FormatAnswer, Outcome, Plain, PlainAnswer, PlainWord, RoundBit, RoundBitAnswer,
-    RoundBitWord,
+    Cause, CutAnswer, Format, Plain, PlainAnswer, PlainWord, RoundBit, RoundBitAnswer,
+    RoundBitWord, Word,
 };
 
-// The answer of a cut.
+// A cut and its rest, which together lose nothing.
 #[derive(Clone, Copy)]
-pub struct CutAnswer {
-    pub outcome: Outcome,
-    pub word: RoundBitWord,
-}
-
-// The answer of an even cut.
-#[derive(Clone, Copy)]
-pub struct EvenCutAnswer {
-    pub outcome: Outcome,
-    pub word: RoundBitWord,
-}
-
-// The answer of a cut and its rest.
-#[derive(Clone, Copy)]
-pub struct CutAndRestAnswer {
-    pub outcome: Outcome,
+pub struct CutAndRest {
     pub word: RoundBitWord,
     pub rest: RoundBitWord,
 }
@@ -54,37 +42,29 @@ fn sign_changed(n: RoundBit) -> RoundBit
 }
 
 fn sign_change_word(w: RoundBitWord) -> RoundBitWord
-    requires { round_bit_check w ≡ Outcome.Done }
+    requires { round_bit_check w ≡ Done }
     ensures { result ≡ sign_change_word w }
 {
-    let f = w.format;
-    let n = sign_changed(w.number);
-    RoundBitWord {
-        number: n,
-        format: f,
+    Word {
+        number: sign_changed(w.number),
+        ..w
     }
+}
+
+fn turned(w: RoundBitWord) -> Result<RoundBitWord, Cause>
+    ensures { result ≡ given (round_bit_check w) (sign_change_word w) }
+{
+    w.check()?;
+    Ok(sign_change_word(w))
 }
 
 pub fn sign_change(w: RoundBitWord) -> RoundBitAnswer
     ensures { result ≡ sign_change_of w }
 {
-    match words::round_bit_check(w) {
-        Outcome::Refused(c) => words::round_bit_refused(c),
-        Outcome::Done => words::round_bit_done(sign_change_word(w)),
-    }
+    turned(w).into()
 }
 
-// Cut by d: the floor, and the highest digit that goes as the round bit. Its check finds its format.
-fn cut_format(w: RoundBitWord, d: u64) -> FormatAnswer
-    ensures { result ≡ format_answer (cut_check w d) (narrower w.format d) }
-{
-    if let Outcome::Refused(c) = words::round_bit_check(w) {
-        words::format_refused(c)
-    } else {
-        words::narrower(w.format, d)
-    }
-}
-
+// Cut by d: the floor, and the highest digit that goes as the round bit.
 fn cut_round_bit(w: RoundBitWord, d: u64) -> u8
     ensures { result ≡ (cut_word w d).number.1 }
 {
@@ -95,47 +75,22 @@ fn cut_round_bit(w: RoundBitWord, d: u64) -> u8
     }
 }
 
-fn cut_word(w: RoundBitWord, d: u64, f: Format) -> RoundBitWord
-    requires { f ≡ narrower w.format d }
-    ensures { result ≡ cut_word w d }
+fn cut_word(w: RoundBitWord, d: u64) -> Result<RoundBitWord, Cause>
+    ensures { result ≡ given (cut_check w d) (cut_word w d) }
 {
+    let format = w.cut_format(d)?;
     let floor = integers::floor_by(w.number.0, d);
     let high = cut_round_bit(w, d);
-    RoundBitWord {
+    Ok(Word {
         number: RoundBit(floor, high),
-        format: f,
-    }
+        format,
+    })
 }
 
-fn cut_refused(c: Cause) -> CutAnswer
-    ensures { result ≡ cut_answer (round_bit_refused c) }
-{
-    let a = words::round_bit_refused(c);
-    let blank = a.word;
-    CutAnswer {
-        outcome: Outcome::Refused(c),
-        word: blank,
-    }
-}
-
-fn cut_done(w: RoundBitWord) -> CutAnswer
-    ensures { result ≡ cut_answer (round_bit_done w) }
-{
-    CutAnswer {
-        outcome: Outcome::Done,
-        word: w,
-    }
-}
-
-pub fn cut(w: RoundBitWord, d: u64) -> CutAnswer
+pub fn cut(w: RoundBitWord, d: u64) -> CutAnswer<RoundBit>
     ensures { result ≡ cut_of w d }
 {
-    let a = cut_format(w, d);
-    let o = a.outcome;
-    match o {
-        Outcome::Refused(c) => cut_refused(c),
-        Outcome::Done => cut_done(cut_word(w, d, a.format)),
-    }
+    cut_word(w, d).into()
 }
 
 // Rest of a cut: the low digits, and the old round bit, which the cut dropped.
@@ -148,58 +103,36 @@ fn rest_round_bit(w: RoundBitWord, d: u64) -> u8
 fn rest_word(w: RoundBitWord, d: u64) -> RoundBitWord
     ensures { result ≡ rest_word w d }
 {
-    let f = w.format;
     let number = integers::low_digits(w.number.0, d);
     let dropped = rest_round_bit(w, d);
-    RoundBitWord {
+    Word {
         number: RoundBit(number, dropped),
-        format: f,
+        ..w
     }
+}
+
+// Both of one check.
+pub fn cut_and_rest(w: RoundBitWord, d: u64) -> Result<CutAndRest, Cause>
+    ensures { result ≡ cut_and_rest_of w d }
+{
+    let word = cut_word(w, d)?;
+    Ok(CutAndRest {
+        word,
+        rest: rest_word(w, d),
+    })
+}
+
+fn left(w: RoundBitWord, d: u64) -> Result<RoundBitWord, Cause>
+    ensures { result ≡ given (cut_check w d) (rest_word w d) }
+{
+    w.cut_format(d)?;
+    Ok(rest_word(w, d))
 }
 
 pub fn rest(w: RoundBitWord, d: u64) -> RoundBitAnswer
     ensures { result ≡ rest_of w d }
 {
-    let a = cut_format(w, d);
-    let o = a.outcome;
-    match o {
-        Outcome::Refused(c) => words::round_bit_refused(c),
-        Outcome::Done => words::round_bit_done(rest_word(w, d)),
-    }
-}
-
-fn cut_and_rest_refused(c: Cause) -> CutAndRestAnswer
-    ensures { result ≡ cut_and_rest_answer (round_bit_refused c) (round_bit_refused c) }
-{
-    let a = words::round_bit_refused(c);
-    let blank = a.word;
-    CutAndRestAnswer {
-        outcome: Outcome::Refused(c),
-        word: blank,
-        rest: blank,
-    }
-}
-
-fn cut_and_rest_done(w: RoundBitWord, rest: RoundBitWord) -> CutAndRestAnswer
-    ensures { result ≡ cut_and_rest_answer (round_bit_done w) (round_bit_done rest) }
-{
-    CutAndRestAnswer {
-        outcome: Outcome::Done,
-        word: w,
-        rest: rest,
-    }
-}
-
-// A cut and its rest, which together lose nothing.
-pub fn cut_and_rest(w: RoundBitWord, d: u64) -> CutAndRestAnswer
-    ensures { result ≡ cut_and_rest_of w d }
-{
-    let a = cut_format(w, d);
-    let o = a.outcome;
-    match o {
-        Outcome::Refused(c) => cut_and_rest_refused(c),
-        Outcome::Done => cut_and_rest_done(cut_word(w, d, a.format), rest_word(w, d)),
-    }
+    left(w, d).into()
 }
 
 // Even cut: as the cut, but by the value a + r, and a tie goes to the even neighbour.
@@ -226,7 +159,7 @@ fn even_round_bit(a: i64, round: u8, q: i64, k: u64) -> u8
 }
 
 fn even_cut_round_bit(w: RoundBitWord, q: i64, d: u64) -> u8
-    requires { (cut_check w d ≡ Outcome.Done) × (q ≡ floor_by w.number.0 d) }
+    requires { (cut_check w d ≡ Done) × (q ≡ floor_by w.number.0 d) }
     ensures { result ≡ (even_cut_word w d).number.1 }
 {
     if d == 0 {
@@ -236,59 +169,25 @@ fn even_cut_round_bit(w: RoundBitWord, q: i64, d: u64) -> u8
     }
 }
 
-fn even_cut_word(w: RoundBitWord, d: u64, f: Format) -> RoundBitWord
-    requires { (cut_check w d ≡ Outcome.Done) × (f ≡ narrower w.format d) }
-    ensures { result ≡ even_cut_word w d }
+fn even_cut_word(w: RoundBitWord, d: u64) -> Result<RoundBitWord, Cause>
+    ensures { result ≡ given (cut_check w d) (even_cut_word w d) }
 {
+    let format = w.cut_format(d)?;
     let number = integers::floor_by(w.number.0, d);
     let even = even_cut_round_bit(w, number, d);
-    RoundBitWord {
+    Ok(Word {
         number: RoundBit(number, even),
-        format: f,
-    }
+        format,
+    })
 }
 
-fn even_cut_refused(c: Cause) -> EvenCutAnswer
-    ensures { result ≡ even_cut_answer (round_bit_refused c) }
-{
-    let a = words::round_bit_refused(c);
-    let blank = a.word;
-    EvenCutAnswer {
-        outcome: Outcome::Refused(c),
-        word: blank,
-    }
-}
-
-fn even_cut_done(w: RoundBitWord) -> EvenCutAnswer
-    ensures { result ≡ even_cut_answer (round_bit_done w) }
-{
-    EvenCutAnswer {
-        outcome: Outcome::Done,
-        word: w,
-    }
-}
-
-pub fn even_cut(w: RoundBitWord, d: u64) -> EvenCutAnswer
+pub fn even_cut(w: RoundBitWord, d: u64) -> CutAnswer<RoundBit>
     ensures { result ≡ even_cut_of w d }
 {
-    let a = cut_format(w, d);
-    let o = a.outcome;
-    match o {
-        Outcome::Refused(c) => even_cut_refused(c),
-        Outcome::Done => even_cut_done(even_cut_word(w, d, a.format)),
-    }
+    even_cut_word(w, d).into()
 }
 
 // Widen on the right by d: zero digits are appended in the signed-digit reading.
-fn widen_format(w: RoundBitWord, d: u64) -> FormatAnswer
-    ensures { result ≡ format_answer (widen_check w d) (wider w.format d) }
-{
-    if let Outcome::Refused(c) = words::round_bit_check(w) {
-        words::format_refused(c)
-    } else {
-        words::wider(w.format, d)
-    }
-}
 
 // a * 2^d + r * (2^d - 1), which is (a + r) * 2^d - r.
 fn widened(n: RoundBit, d: u64) -> i64
@@ -299,71 +198,63 @@ fn widened(n: RoundBit, d: u64) -> i64
     ((n.0 + r) << d) - r
 }
 
-fn widen_word(w: RoundBitWord, d: u64, f: Format) -> RoundBitWord
-    requires { (widen_check w d ≡ Outcome.Done) × (f ≡ wider w.format d) }
-    ensures { result ≡ widen_word w d }
+fn widen_word(w: RoundBitWord, d: u64) -> Result<RoundBitWord, Cause>
+    ensures { result ≡ given (widen_check w d) (widen_word w d) }
 {
-    RoundBitWord {
+    let format = w.widened_format(d)?;
+    Ok(Word {
         number: RoundBit(widened(w.number, d), w.number.1),
-        format: f,
-    }
+        format,
+    })
 }
 
 pub fn widen(w: RoundBitWord, d: u64) -> RoundBitAnswer
     ensures { result ≡ widen_of w d }
 {
-    let a = widen_format(w, d);
-    let o = a.outcome;
-    match o {
-        Outcome::Refused(c) => words::round_bit_refused(c),
-        Outcome::Done => words::round_bit_done(widen_word(w, d, a.format)),
-    }
+    widen_word(w, d).into()
 }
 
 // Sum: (a + b + (ra and rb), ra or rb). 8 tests the number, not the value.
-fn sum_check(x: RoundBitWord, y: RoundBitWord) -> Outcome
-    ensures { result ≡ sum_check x y }
-{
-    if let Outcome::Refused(c) = words::round_bit_check(x) {
-        Outcome::Refused(c)
-    } else if let Outcome::Refused(c) = words::round_bit_check(y) {
-        Outcome::Refused(c)
-    } else {
-        words::refuse_for(Cause::Mismatch, words::differ(x.format, y.format))
-    }
-}
-
 fn sum_word(x: RoundBitWord, y: RoundBitWord) -> RoundBitWord
-    requires { sum_check x y ≡ Outcome.Done }
+    requires { sum_check x y ≡ Done }
     ensures { result ≡ sum_word x y }
 {
-    let f = x.format;
-    RoundBitWord {
+    Word {
         number: RoundBit(
             x.number.0 + y.number.0 + (x.number.1 & y.number.1) as i64,
             x.number.1 | y.number.1,
         ),
-        format: f,
+        ..x
     }
 }
 
+fn added(x: RoundBitWord, y: RoundBitWord) -> Result<RoundBitWord, Cause>
+    ensures { let z = sum_word x y in result ≡ (sum_check x y then given (refuse 8 (outside z.format z.number.0)) z) }
+{
+    x.sum_check(y)?;
+    sum_word(x, y).fitted()
+}
+
+#[tactic(auto, using(words::proofs::Given::answer_fitted), unfolding(words::specs::RoundBit::round_bit_fitted))]
 pub fn sum(x: RoundBitWord, y: RoundBitWord) -> RoundBitAnswer
     ensures { result ≡ sum_of x y }
 {
-    match sum_check(x, y) {
-        Outcome::Refused(c) => words::round_bit_refused(c),
-        Outcome::Done => words::round_bit_fitted(sum_word(x, y)),
-    }
+    added(x, y).into()
 }
 
 // Difference: the sum with the second operand's sign changed.
+fn taken_off(x: RoundBitWord, y: RoundBitWord) -> Result<RoundBitWord, Cause>
+    ensures { let z = sum_word x (sign_change_word y) in result ≡ (sum_check x y then given (refuse 8 (outside z.format z.number.0)) z) }
+{
+    x.sum_check(y)?;
+    sum_word(x, sign_change_word(y)).fitted()
+}
+
+#[tactic(auto, using(words::proofs::Given::answer_fitted), unfolding(words::specs::RoundBit::round_bit_fitted))]
 pub fn difference(x: RoundBitWord, y: RoundBitWord) -> RoundBitAnswer
     ensures { result ≡ difference_of x y }
 {
-    match sum_check(x, y) {
-        Outcome::Refused(c) => words::round_bit_refused(c),
-        Outcome::Done => words::round_bit_fitted(sum_word(x, sign_change_word(y))),
-    }
+    taken_off(x, y).into()
 }
 
 // Product of numbers that are not negative: (ab + a rb + b ra, ra rb).
@@ -402,87 +293,67 @@ fn multiplied(m: RoundBit, n: RoundBit) -> RoundBit
     sign_changed_if(p ^ q, z)
 }
 
-fn formats_multiplied(f: Format, g: Format) -> FormatAnswer
+fn formats_multiplied(f: Format, g: Format) -> Result<Format, Cause>
     requires { 2 ≤ f.width }
-    ensures { result ≡ format_answer (answer_check (product_format f g)) (product_format f g) }
+    ensures { result ≡ given (answer_check (product_format f g)) (product_format f g) }
 {
-    words::formed(
-        (f.width as u64) + (g.width as u64) - 1,
-        words::units_multiplied(f, g),
+    Format::formed(
+        u64::from(f.width) + u64::from(g.width) - 1,
+        f.units_multiplied(g),
     )
 }
 
-fn product_format(x: RoundBitWord, y: RoundBitWord) -> FormatAnswer
-    ensures { result ≡ format_answer (product_check x y) (product_format x.format y.format) }
+fn product_word(x: RoundBitWord, y: RoundBitWord) -> Result<RoundBitWord, Cause>
+    ensures { result ≡ given (product_check x y) (product_word x y) }
 {
-    if let Outcome::Refused(c) = words::round_bit_check(x) {
-        words::format_refused(c)
-    } else if let Outcome::Refused(c) = words::round_bit_check(y) {
-        words::format_refused(c)
-    } else {
-        formats_multiplied(x.format, y.format)
-    }
-}
-
-fn product_word(x: RoundBitWord, y: RoundBitWord, f: Format) -> RoundBitWord
-    requires { (product_check x y ≡ Outcome.Done) × (f ≡ product_format x.format y.format) }
-    ensures { result ≡ product_word x y }
-{
-    let n = multiplied(x.number, y.number);
-    RoundBitWord {
-        number: n,
-        format: f,
-    }
+    x.check()?;
+    y.check()?;
+    let format = formats_multiplied(x.format, y.format)?;
+    Ok(Word {
+        number: multiplied(x.number, y.number),
+        format,
+    })
 }
 
 pub fn product(x: RoundBitWord, y: RoundBitWord) -> RoundBitAnswer
     ensures { result ≡ product_of x y }
 {
-    let a = product_format(x, y);
-    let o = a.outcome;
-    match o {
-        Outcome::Refused(c) => words::round_bit_refused(c),
-        Outcome::Done => words::round_bit_done(product_word(x, y, a.format)),
-    }
+    product_word(x, y).into()
 }
 
 // To plain: a + r; 8 if that is 2^(n-1).
-fn to_plain_word(w: RoundBitWord) -> PlainWord
-    requires { round_bit_check w ≡ Outcome.Done }
-    ensures { result ≡ to_plain_word w }
+fn to_plain_word(w: RoundBitWord) -> Result<PlainWord, Cause>
+    ensures { let p = to_plain_word w in result ≡ (round_bit_check w then given (refuse 8 (outside p.format p.number.0)) p) }
 {
-    let f = w.format;
-    PlainWord {
-        number: Plain(w.number.0 + w.number.1 as i64),
-        format: f,
-    }
+    w.check()?;
+    let word = Word {
+        number: Plain(w.number.0 + i64::from(w.number.1)),
+        format: w.format,
+    };
+    word.fitted()
 }
 
+#[tactic(auto, using(words::proofs::Given::answer_fitted), unfolding(words::specs::Plain::plain_fitted))]
 pub fn to_plain(w: RoundBitWord) -> PlainAnswer
     ensures { result ≡ to_plain_of w }
 {
-    match words::round_bit_check(w) {
-        Outcome::Refused(c) => words::plain_refused(c),
-        Outcome::Done => words::plain_fitted(to_plain_word(w)),
-    }
+    to_plain_word(w).into()
 }
 
 // From plain: (x, 0).
-fn from_plain_word(w: PlainWord) -> RoundBitWord
-    ensures { result ≡ from_plain_word w }
+#[tactic(auto, unfolding(crate::specs::Arithmetic::from_plain_word))]
+fn from_plain_word(w: PlainWord) -> Result<RoundBitWord, Cause>
+    ensures { result ≡ given (plain_check w) (from_plain_word w) }
 {
-    let f = w.format;
-    RoundBitWord {
+    w.check()?;
+    Ok(Word {
         number: RoundBit(w.number.0, 0),
-        format: f,
-    }
+        format: w.format,
+    })
 }
 
 pub fn from_plain(w: PlainWord) -> RoundBitAnswer
     ensures { result ≡ from_plain_of w }
 {
-    match words::plain_check(w) {
-        Outcome::Refused(c) => words::round_bit_refused(c),
-        Outcome::Done => words::round_bit_done(from_plain_word(w)),
-    }
+    from_plain_word(w).into()
 }

@@ -1,5 +1,5 @@
 -- What a call answers that works out a `Result`: the answers of specs/ are those of what it worked out. Assumes nothing.
--- Proved here: `answer_then`, `answer_given`, `answer_fitted`, `given_ok`, `given_err`, `then_ok`.
+-- Proved here: `answer_then`, `answer_given`, `answer_fitted`, `ok_given`, `given_is`, `then_is`.
 use mathlib.Core.Path.{◌≡◌, refl}
 use Rattle.std.specs.Prelude.{Result, Ok, Err}
 use Rattle.words.specs.declared.Cause.{Cause}
@@ -19,11 +19,20 @@ module _ {N : Type 0} (zero : N) where
       answer_of zero (given o w) ≡ after (λ c. record { outcome = Refused c; word = blank_of zero }) o (record { outcome = Done; word = w })
   answer_given o w = answer_then o (Ok w)
 
--- ---- what the arms of a `?` or a match know of a check and what is given behind it
-pub given_ok : {A : Type 0} (o : Outcome) (a b : A) → given o a ≡ Ok b → (o ≡ Done) × (b ≡ a)
-given_ok (Ok tt) a b e = (refl, cc)
-given_ok (Err c) a b e = absurd cc
+  -- where 8 is asked last
+  pub answer_fitted : (o p : Outcome) (w : Word N) →
+      answer_of zero (o then given p w) ≡ after (λ c. record { outcome = Refused c; word = blank_of zero }) o
+      (after (λ c. record { outcome = Refused c; word = blank_of zero }) p (record { outcome = Done; word = w }))
+  answer_fitted (Ok tt) p w = answer_given p w
+  answer_fitted (Err c) p w = refl
 
-pub given_err : {A : Type 0} (o : Outcome) (a : A) (c : Cause) → given o a ≡ Err c → o ≡ Refused c
-given_err (Ok tt) a c e = absurd cc
-given_err (Err d) a c e = cc
+-- ---- what is known behind a `?`: the check passed, and that is what was given; and what is then answered
+pub ok_given : {A : Type 0} (o : Outcome) (a b : A) → Ok b ≡ given o a → (o ≡ Done) × (b ≡ a)
+ok_given (Ok tt) a b e = (refl, cc)
+ok_given (Err c) a b e = absurd cc
+
+pub given_is : {A : Type 0} {o : Outcome} {a b : A} → o ≡ Done → a ≡ b → Ok a ≡ given o b
+given_is e f = rw (e, f)
+
+pub then_is : {A : Type 0} {o : Outcome} {r s : Result A Cause} → o ≡ Done → r ≡ s → r ≡ (o then s)
+then_is e f = rw (e, f)

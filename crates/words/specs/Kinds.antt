@@ -1,9 +1,10 @@
--- The types of the three kinds of word, and of the answer that has one.
+-- The types of the three kinds of word, and of the answers that have one.
 use Rattle.words.specs.declared.Plain.{Plain}
 use Rattle.words.specs.declared.RoundBit.{RoundBit}
 use Rattle.words.specs.declared.HalfUnit.{HalfUnit}
 use Rattle.words.specs.declared.Word.{Word}
 use Rattle.words.specs.declared.Answer.{Answer}
+use Rattle.words.specs.declared.CutAnswer.{CutAnswer}
 
 abbrev pub PlainWord : Type 0
 PlainWord = Word Plain
@@ -22,3 +23,9 @@ RoundBitAnswer = Answer RoundBit
 
 abbrev pub HalfUnitAnswer : Type 0
 HalfUnitAnswer = Answer HalfUnit
+
+abbrev pub RoundBitCutAnswer : Type 0
+RoundBitCutAnswer = CutAnswer RoundBit
+
+abbrev pub HalfUnitCutAnswer : Type 0
+HalfUnitCutAnswer = CutAnswer HalfUnit

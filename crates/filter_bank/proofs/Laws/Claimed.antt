@@ -17,8 +17,9 @@ use Rattle.words.specs.declared.Cause.TheVariants.{UnitPast}
 use Rattle.words.specs.Outcomes.{Done}
 use Rattle.words.specs.Kinds.{RoundBitWord}
 use Rattle.words.proofs.Laws.{passed, three_passed, or-false}
-use Rattle.round_bit.specs.declared.CutAnswer.{CutAnswer}
-use Rattle.round_bit.specs.Cuts.{cut_check, cut_answer}
+use Rattle.words.specs.Kinds.{RoundBitCutAnswer}
+use Rattle.words.specs.Answers.{cut_answer}
+use Rattle.round_bit.specs.Cuts.{cut_check}
 use Rattle.round_bit.specs.Arithmetic.{sum_of}
 use Rattle.round_bit.proofs.Laws.Cuts.{cut_passes, cut_closed, cut_value, cut_format}
 use Rattle.filter_bank.specs.Bank.{most_channel, cut_depth, products, total, output_word, products_unit, row_check, unit_check, channel_check}
@@ -93,8 +94,8 @@ module _ (taps window : List RoundBitWord) (channel : ℕ) (e : channel_check ta
         products_done = (made taps window told).done;
         seven = rw meant (additions_count ps ∙ rw (eight taps window told h k));
         sums_done = rw meant (sums taps window told h k).done;
-        cut_done = ap (λ (a : CutAnswer). a.outcome) last_cut_is;
-        chained = rw e (ap (λ (a : CutAnswer). output_answer a.outcome a.word) (sym last_cut_is));
+        cut_done = ap (λ (a : RoundBitCutAnswer). a.outcome) last_cut_is;
+        chained = rw e (ap (λ (a : RoundBitCutAnswer). output_answer a.outcome a.word) (sym last_cut_is));
         fits = channel_closed;
         form = form;
         near = near;

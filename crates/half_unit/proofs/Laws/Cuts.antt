@@ -56,7 +56,7 @@ module _ (o : Outcome) (w : HalfUnitWord) (passes : o ≡ Done → half_unit_che
   answer_closed e = let c = done_passed half_unit_refused (λ a. a.outcome) (λ c. refl) o (half_unit_done w) e in rw c (passes c)
 
 pub sign_change_check : (w : HalfUnitWord) → half_unit_check (sign_change_word w) ≡ half_unit_check w
-unfolding half_unit_check word_check sign_change_word
+unfolding word_check sign_change_word
 sign_change_check w = rw (fits_turned w.number.0 w.format.width)
 
 pub sign_change_closed : (w : HalfUnitWord) → (sign_change_of w).outcome ≡ Done → half_unit_check (sign_change_of w).word ≡ Done

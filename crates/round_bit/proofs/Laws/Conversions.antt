@@ -24,7 +24,7 @@ use Rattle.round_bit.proofs.Checks.{word_done}
 
 -- ---- closed: the word of a done answer passes its own check
 pub to_plain_closed : (w : RoundBitWord) → (to_plain_of w).outcome ≡ Done → plain_check (to_plain_of w).word ≡ Done
-unfolding to_plain_word plain_fitted plain_check round_bit_check
+unfolding to_plain_word plain_fitted
 to_plain_closed w e =
     let a = w.number.0 +ℤ pos w.number.1 in
     let p = done_fits plain_refused (λ a. a.outcome) (λ c. refl) (round_bit_check w) w.format a (plain_done (to_plain_word w)) e in
@@ -32,7 +32,7 @@ to_plain_closed w e =
     rw (p.0, fit_passes w.format a p.1) (word_right w.format a 0 (record { format = g.format; size = p.1; bit = omega arith }))
 
 pub from_plain_closed : (w : PlainWord) → (from_plain_of w).outcome ≡ Done → round_bit_check (from_plain_of w).word ≡ Done
-unfolding from_plain_word plain_check round_bit_check
+unfolding from_plain_word
 from_plain_closed w e = let p = word_done (plain_check w) (from_plain_word w) e in rw p.1 p.0
 
 -- ---- to plain and from plain keep the value; to plain after from plain is the word; to plain refuses only the one value 2 ^ (n - 1)
@@ -45,14 +45,14 @@ unfolding from_plain_word value
 from_plain_value w = rw (+ℤ_idr w.number.0)
 
 pub from_to_plain : (w : PlainWord) → plain_check w ≡ Done → to_plain_of (from_plain_word w) ≡ plain_done w
-unfolding to_plain_word from_plain_word plain_fitted plain_check round_bit_check
+unfolding to_plain_word from_plain_word plain_fitted
 from_to_plain w e =
     let g = right w.format w.number.0 0 e in
     rw (e, +ℤ_idr w.number.0, fit_passes w.format w.number.0 g.size)
 
 pub to_plain_refuses : (w : RoundBitWord) → round_bit_check w ≡ Done →
     ((to_plain_of w).outcome ≡ Done) ⊎ (((to_plain_of w).outcome ≡ refuse 8 true) × (w.number.0 +ℤ pos w.number.1 ≡ pos (2 ^ (w.format.width - 1))))
-unfolding to_plain_word plain_fitted round_bit_check
+unfolding to_plain_word plain_fitted
 to_plain_refuses w e = told (fits_width a w.format.width) refl
   where
     a : ℤ

@@ -22,7 +22,8 @@ use Rattle.words.specs.Kinds.{RoundBitWord}
 use Rattle.words.proofs.Laws.{both_pass, RightRoundBit, round_bit_right, round_bit_passes, round_bit_law}
 use Rattle.words.proofs.Formats.{narrower_none, narrower_passes, narrower_first, narrower_then, narrower_narrower}
 use Rattle.words.proofs.Rights.{nothing_right, floor_right, low_right}
-use Rattle.round_bit.specs.Cuts.{sign_change_word, cut_by, cut_word, cut_check, cut_answer, cut_of, rest_word, rest_of}
+use Rattle.words.specs.Answers.{cut_answer}
+use Rattle.round_bit.specs.Cuts.{sign_change_word, cut_by, cut_word, cut_check, cut_of, rest_word, rest_of}
 use Rattle.round_bit.proofs.Checks.{word_done, word_outcome, cut_passed}
 use Rattle.round_bit.proofs.Laws.Signs.{sign_change_passed}
 

@@ -24,8 +24,9 @@ use Rattle.words.specs.Outcomes.{Done}
 use Rattle.words.specs.Kinds.{RoundBitWord}
 use Rattle.words.proofs.Laws.{RightRoundBit, round_bit_passes, round_bit_law}
 use Rattle.words.proofs.Rights.{floor_right}
-use Rattle.round_bit.specs.declared.CutAnswer.{CutAnswer}
-use Rattle.round_bit.specs.Cuts.{sign_change_word, cut_by, cut_word, cut_check, cut_of, tied, even_round_bit, even_cut_word, even_cut_answer, even_cut_of}
+use Rattle.words.specs.Kinds.{RoundBitCutAnswer}
+use Rattle.words.specs.Answers.{cut_answer}
+use Rattle.round_bit.specs.Cuts.{sign_change_word, cut_by, cut_word, cut_check, cut_of, tied, even_round_bit, even_cut_word, even_cut_of}
 use Rattle.round_bit.proofs.Checks.{word_done, word_outcome}
 use Rattle.round_bit.proofs.Laws.Cuts.{cut_done, cut_tells, cut_none, cut_sign_outcome}
 
@@ -58,9 +59,9 @@ even_cut_done w d e = word_done (cut_check w d) (even_cut_word w d) e
 pub even_cut_refuses : (w : RoundBitWord) (d : ℕ) → (even_cut_of w d).outcome ≡ (cut_of w d).outcome
 even_cut_refuses w d = word_outcome (cut_check w d) (even_cut_word w d) ∙ sym (word_outcome (cut_check w d) (cut_word w d))
 
-pub even_cut_none : (w : RoundBitWord) → round_bit_check w ≡ Done → even_cut_of w 0 ≡ even_cut_answer (round_bit_done w)
+pub even_cut_none : (w : RoundBitWord) → round_bit_check w ≡ Done → even_cut_of w 0 ≡ cut_answer (round_bit_done w)
 unfolding cut_by
-even_cut_none w e = rw (cut_done w 0 (ap (λ (a : CutAnswer). a.outcome) (cut_none w e))).0
+even_cut_none w e = rw (cut_done w 0 (ap (λ (a : RoundBitCutAnswer). a.outcome) (cut_none w e))).0
 
 -- ---- closed: the word of a done answer passes its own check
 even_cut_right : (w : RoundBitWord) (d : ℕ) → cut_check w d ≡ Done → RightRoundBit (even_cut_word w d)
@@ -140,7 +141,7 @@ even_cut_plain w k t = rw t
 
 -- ---- words with round bit 0 keep the answers that they have by equation 11
 pub even_cut_equation_11 : (w : RoundBitWord) (d : ℕ) → w.number.1 ≡ 0 →
-    even_cut_of w d ≡ even_cut_answer (cut_check w d and_then round_bit_done (cut_by equation_11 w d))
+    even_cut_of w d ≡ cut_answer (cut_check w d and_then round_bit_done (cut_by equation_11 w d))
 unfolding cut_by
 even_cut_equation_11 w zero z = refl
 even_cut_equation_11 w (suc k) z =

@@ -14,7 +14,7 @@ use Rattle.words.specs.Kinds.{RoundBitWord}
 use Rattle.words.proofs.Laws.{round_bit_right, round_bit_passes}
 use Rattle.words.proofs.Formats.{narrower_then}
 use Rattle.words.proofs.Moves.{MoveLaws, run_claimed}
-use Rattle.round_bit.specs.declared.EvenCutAnswer.{EvenCutAnswer}
+use Rattle.words.specs.Kinds.{RoundBitCutAnswer}
 use Rattle.round_bit.specs.Cuts.{sign_change_word, sign_change_of, cut_by, cut_word, cut_check, cut_of, even_round_bit, even_cut_word, even_cut_of}
 use Rattle.round_bit.specs.Moves.{moved, Near, AnyRun, OneEvenCut, EvenBeside}
 use Rattle.round_bit.proofs.Laws.Signs.{sign_change_passed, sign_change_value, sign_change_twice}
@@ -74,17 +74,17 @@ even_turned w d e =
     ∙ even_cut_sign w d e
     ∙ sym (signed (even_cut_of w d).word (even_cut_closed w d e))
 
-bits_differ : (a b : EvenCutAnswer) → a.word.number.1 ≡ 0 → b.word.number.1 ≡ 1 → a ≡ b → ⊥
-bits_differ a b x y e = omega (arith, x, y, ap (λ (c : EvenCutAnswer). c.word.number.1) e)
+bits_differ : (a b : RoundBitCutAnswer) → a.word.number.1 ≡ 0 → b.word.number.1 ≡ 1 → a ≡ b → ⊥
+bits_differ a b x y e = omega (arith, x, y, ap (λ (c : RoundBitCutAnswer). c.word.number.1) e)
 
 -- (2,1) at width 4: cut by 1 it is (1,0), a tie of the even cut by 1, which answers (0,0); at once it is no tie, and answers (0,1)
 after_cut_differs : OneEvenCut (λ w a. (cut_of w a).word) → ⊥
-unfolding floor_by fits_width lowest digit format_check word_check narrower_check round_bit_check cut_by even_round_bit
+unfolding floor_by fits_width lowest digit format_check word_check narrower_check cut_by even_round_bit
 after_cut_differs one = bits_differ _ _ refl refl (one (at 4 (pos 2) 1) 0 0 refl)
 
 -- (5,0) at width 5: even cut by 1 is a tie and answers (2,0), a tie again by 2, which answers (0,0); at once it is no tie, and answers (0,1)
 after_even_cut_differs : OneEvenCut (λ w a. (even_cut_of w a).word) → ⊥
-unfolding floor_by fits_width lowest digit format_check word_check narrower_check round_bit_check cut_by even_round_bit
+unfolding floor_by fits_width lowest digit format_check word_check narrower_check cut_by even_round_bit
 after_even_cut_differs one = bits_differ _ _ refl refl (one (at 5 (pos 5) 0) 0 1 refl)
 
 pub even_beside : EvenBeside

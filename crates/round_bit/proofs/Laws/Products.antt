@@ -29,7 +29,6 @@ pub record Factors (x y : RoundBitWord) : Type 0 where
   pub format : RightFormat (product_format x.format y.format)
 
 product_tells : (x y : RoundBitWord) → (product_of x y).outcome ≡ Done → Factors x y
-unfolding round_bit_check
 product_tells x y e =
     let f = product_format x.format y.format in
     let c = (word_done (product_check x y) (product_word x y) e).0 in
@@ -37,11 +36,10 @@ product_tells x y e =
     record { first = p.0; second = p.1; format = answer_right f (omega (arith, p.0.format.narrow, p.1.format.narrow)) p.2 }
 
 pub product_is_word : (x y : RoundBitWord) → Factors x y → product_of x y ≡ round_bit_done (product_word x y)
-unfolding round_bit_check
 product_is_word x y g = rw (right_both g.first g.second (answer_done (product_format x.format y.format) g.format))
 
 pub product_word_right : (x y : RoundBitWord) → Factors x y → round_bit_check (product_word x y) ≡ Done
-unfolding product_word round_bit_check
+unfolding product_word
 product_word_right x y g =
     let i = x.format.width - 1 in
     let j = y.format.width - 1 in

@@ -43,7 +43,7 @@ pub signs_right : (f : Format) (n : RoundBit) → Right f n.0 n.1 → Right f (s
 signs_right f n g = record { format = g.format; size = rw (turned_size n.0) g.size; bit = omega arith }
 
 pub sign_change_passed : (w : RoundBitWord) → round_bit_check w ≡ Done → round_bit_check (sign_change_word w) ≡ Done
-unfolding sign_change_word round_bit_check
+unfolding sign_change_word
 sign_change_passed w e = word_right _ _ _ (signs_right w.format w.number (round_bit_right w e))
 
 pub sign_change_done : (w : RoundBitWord) → (sign_change_of w).outcome ≡ Done → (round_bit_check w ≡ Done) × ((sign_change_of w).word ≡ sign_change_word w)

@@ -29,13 +29,11 @@ pub record Operands (x y : RoundBitWord) : Type 0 where
   pub same : x.format ≡ y.format
 
 pub sum_check_tells : (x y : RoundBitWord) → sum_check x y ≡ Done → Operands x y
-unfolding round_bit_check
 sum_check_tells x y e =
     let p = operands_right x.format x.number.0 x.number.1 y.format y.number.0 y.number.1 e in
     record { first = p.0; second = p.1; same = p.2 }
 
 pub sum_check_asks : (x y : RoundBitWord) → Operands x y → sum_check x y ≡ Done
-unfolding round_bit_check
 sum_check_asks x y p = right_operands p.first p.second p.same
 
 -- a word that fits is its answer
@@ -58,7 +56,7 @@ module _ (x y z : RoundBitWord) (done : (sum_check x y and_then round_bit_fitted
   answer_is_word = rw answer_fits.0 (word_fits (sum_word x z) answer_fits.1)
 
   answer_closed : z.number.1 ≤ 1 → round_bit_check (sum_check x y and_then round_bit_fitted (sum_word x z)).word ≡ Done
-  unfolding sum_word round_bit_check
+  unfolding sum_word
   answer_closed h =
       let n = added x.number z.number in
       let g = answer_operands.first in
@@ -104,13 +102,12 @@ sum_comm x y e =
     rw (e, back, same)
 
 zero_passes : (w : RoundBitWord) → round_bit_check w ≡ Done → sum_check w (round_bit_word (pos 0) 0 w.format) ≡ Done
-unfolding round_bit_check
 zero_passes w e =
     let g = right w.format w.number.0 w.number.1 e in
     sum_check_asks w (round_bit_word (pos 0) 0 w.format) (record { first = g; second = nothing_right g.format; same = refl })
 
 pub sum_zero : (w : RoundBitWord) → round_bit_check w ≡ Done → sum_of w (round_bit_word (pos 0) 0 w.format) ≡ round_bit_done w
-unfolding sum_word round_bit_check
+unfolding sum_word
 sum_zero w e =
     let n = w.number in
     let same : sum_word w (round_bit_word (pos 0) 0 w.format) ≡ w = rw (and_zero_r n.1, or_zero_r n.1, +ℤ_idr n.0, +ℤ_idr n.0) in
@@ -149,7 +146,7 @@ difference_value x y e =
     )
 
 pub difference_self : (w : RoundBitWord) → round_bit_check w ≡ Done → difference_of w w ≡ round_bit_done (round_bit_word (negsuc 0) 1 w.format)
-unfolding sum_word sign_change_word round_bit_check
+unfolding sum_word sign_change_word
 difference_self w e =
     let g = right w.format w.number.0 w.number.1 e in
     let c = sum_check_asks w w (record { first = g; second = g; same = refl }) in

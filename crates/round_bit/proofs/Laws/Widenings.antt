@@ -15,7 +15,8 @@ use Rattle.words.proofs.Laws.{RightFormat, RightRoundBit, round_bit_passes, roun
 use Rattle.words.proofs.Formats.{narrower_none, narrower_passes, narrower_wider}
 use Rattle.words.proofs.Rights.{widened_right}
 use Rattle.words.proofs.Operands.{wider_right}
-use Rattle.round_bit.specs.Cuts.{cut_by, cut_word, cut_answer, cut_of, widen_word, widen_check, widen_of}
+use Rattle.words.specs.Answers.{cut_answer}
+use Rattle.round_bit.specs.Cuts.{cut_by, cut_word, cut_of, widen_word, widen_check, widen_of}
 use Rattle.round_bit.proofs.Checks.{word_done}
 use Rattle.round_bit.proofs.Laws.Cuts.{cut_passes}
 
@@ -24,7 +25,6 @@ pub widen_done : (w : RoundBitWord) (d : ℕ) → (widen_of w d).outcome ≡ Don
 widen_done w d e = word_done (widen_check w d) (widen_word w d) e
 
 pub widen_tells : (w : RoundBitWord) (d : ℕ) → widen_check w d ≡ Done → RightRoundBit w × RightFormat (wider w.format d)
-unfolding round_bit_check
 widen_tells w d c = wider_right w.format w.number.0 w.number.1 d c
 
 -- ---- closed: the word of a done answer passes its own check

@@ -10,6 +10,7 @@ use Rattle.words.specs.Outcomes.{Done}
 use Rattle.words.specs.Kinds.{RoundBitWord}
 use Rattle.words.proofs.Laws.{round_bit_right}
 use Rattle.words.proofs.Formats.{answer_right}
+use Rattle.words.proofs.Given.{ok_given, given_is}
 use Rattle.round_bit.specs.Cuts.{widen_word, widen_check}
 use Rattle.round_bit.proofs.Checks.{widen_passed}
 use Rattle.round_bit.proofs.widen_word.Goals as goal
@@ -26,8 +27,10 @@ room w d e =
     )
 
 pub widened-requires : goal.widened-requires
-widened-requires c = room c.args.w c.args.d c.requires.0
+widened-requires c = room c.args.w c.args.d (ok_given _ _ _ c.in_ok-format.ensures).0
 
 pub returns : goal.returns
 unfolding widen_word
-returns c = rw (c.requires.1, to_z-of_z (record { sfits = c.widened.type_inv }), c.widened.ensures)
+returns c =
+    let p = ok_given _ _ _ c.in_ok-format.ensures in
+    given_is p.0 (rw (p.1, to_z-of_z (record { sfits = c.widened.type_inv }), c.widened.ensures))
