@@ -45,7 +45,7 @@ use Rattle.digit_text.specs.Reading.{strange_at, repeats_at, strange_place, repe
 use Rattle.digit_text.specs.Reading.{read_check, place_of, read_round, read_word, read_of}
 use Rattle.digit_text.specs.declared.ReadAnswer.{ReadAnswer}
 use Rattle.running_sum.specs.declared.RunningSum.{RunningSum}
-use Rattle.running_sum.specs.declared.OpenAnswer.{OpenAnswer}
+use Rattle.running_sum.specs.declared.SumAnswer.{SumAnswer}
 use Rattle.running_sum.specs.Steps.{depth_check, open_answer, open_of, stepped, put_check, step_of}
 use Rattle.running_sum.proofs.Links.{meets_step}
 use Rattle.bench_sheet.specs.Bench.{flat_of, flat_cut, flat_even_cut, flat_word, Called, called}
@@ -118,9 +118,9 @@ run_met n e d calls h a p =
     let k = flat_word b.sum.kept in
     let nothing = flat 0 (pos 0) 0 n e in
     let holds = three_hold (eqb o 0) (same_flat k nothing) (ran b.sum calls) h in (
-      ap (λ (a : OpenAnswer). number_of a.outcome) p ∙ eqb-true o 0 holds.0,
-      ap (λ (a : OpenAnswer). flat_word a.sum.kept) p ∙ same_flat_lem k nothing holds.1,
-      ran_runs a.sum calls (ap (λ (a : OpenAnswer). ran a.sum calls) p ∙ holds.2),
+      ap (λ (a : SumAnswer). number_of a.outcome) p ∙ eqb-true o 0 holds.0,
+      ap (λ (a : SumAnswer). flat_word a.sum.kept) p ∙ same_flat_lem k nothing holds.1,
+      ran_runs a.sum calls (ap (λ (a : SumAnswer). ran a.sum calls) p ∙ holds.2),
     )
 
 right_met : (c : Check) → right c ≡ true → Met c

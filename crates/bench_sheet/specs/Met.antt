@@ -15,7 +15,7 @@ use Rattle.words.specs.Refusals.{number_of}
 use Rattle.words.specs.RoundBit.{round_bit_value, round_bit_check}
 use Rattle.words.specs.Flat.{flat, flat_round_bit, flat_half_unit}
 use Rattle.running_sum.specs.declared.RunningSum.{RunningSum}
-use Rattle.running_sum.specs.declared.OpenAnswer.{OpenAnswer}
+use Rattle.running_sum.specs.declared.SumAnswer.{SumAnswer}
 use Rattle.running_sum.proofs.Links.{Meets}
 use Rattle.running_sum.proofs.open.Reads as open-function
 use Rattle.round_bit.proofs.sum.Reads as sum-function
@@ -74,7 +74,7 @@ Met (reading t a k) =
     before.now ≡ t → read-function.Post κs (before, (pos 0, tt)) r (after, (pos 0, tt)) →
     (flat_of r.outcome r.word ≡ a) × (r.place ≡ k)
 Met (run n e d calls) =
-    (a : OpenAnswer) → open-function.Post tt (n, (e, (d, tt))) a (n, (e, (d, tt))) →
+    (a : SumAnswer) → open-function.Post tt (n, (e, (d, tt))) a (n, (e, (d, tt))) →
     (number_of a.outcome ≡ 0) × (flat_word a.sum.kept ≡ flat 0 (pos 0) 0 n e)
     × Runs a.sum calls
 

@@ -11,7 +11,7 @@ use lib.IntN.{ℤ, pos, nat_abs, ◌+ℤ◌, ◌-ℤ◌}
 use Rattle.integers.proofs.Chains.{chain_map}
 use Rattle.words.specs.Refusals.{number_of}
 use Rattle.words.specs.declared.{Format.Format, Outcome.{Outcome, TheVariants.Done}, RoundBitWord.RoundBitWord}
-use Rattle.running_sum.specs.declared.{RunningSum.RunningSum, OpenAnswer.OpenAnswer}
+use Rattle.running_sum.specs.declared.{RunningSum.RunningSum, SumAnswer.SumAnswer}
 use Rattle.running_sum.specs.Steps.{Call, open_of, step_of}
 use Rattle.running_sum.specs.Totals.{Answered, taken_in, given_out, accepted, handed_out}
 use Rattle.running_sum.proofs.Conserved.{step_outcome, shut}
@@ -123,7 +123,7 @@ module _ (n : ℕ) (e : ℤ) (d : ℕ) (a : FrostSumAnswer) (opening : frost-ope
   abbrev unit : ℤ
   unit = a.sum.kept.unit
 
-  abbrev opened : OpenAnswer
+  abbrev opened : SumAnswer
   opened = record { outcome = outcome_in a.refusal; sum = sum_in a.sum }
 
   opening_in : opened ≡ open_of n e d

@@ -11,7 +11,7 @@ use Rattle.words.specs.Words.{value}
 use Rattle.words.specs.RoundBit.{round_bit_value, round_bit_check}
 use Rattle.words.specs.declared.Cause.{Cause, TheVariants.{Mismatch}}
 use Rattle.words.specs.declared.Format.{Format}
-use Rattle.words.specs.declared.Outcome.{Outcome, TheVariants.{Done, Refused}}
+use Rattle.words.specs.Outcomes.{Outcome, Done, Refused}
 use Rattle.words.specs.Kinds.{RoundBitWord}
 use Rattle.words.specs.Kinds.{RoundBitAnswer}
 use Rattle.words.proofs.Laws.{refused_not_done, both_passed, three_passed, passed, round_bit_right, round_bit_passes}

@@ -15,7 +15,7 @@ use Rattle.words.specs.Formats.{format}
 use Rattle.words.specs.RoundBit.{round_bit_value}
 use Rattle.words.specs.declared.Format.{Format}
 use Rattle.words.specs.Outcomes.{Outcome}
-use Rattle.words.specs.Outcomes.{Done, Refused}
+use Rattle.words.specs.Outcomes.{Done}
 use Rattle.words.proofs.Laws.{both_passed, right_format, round_bit_passes}
 use Rattle.words.proofs.Rights.{nothing_right}
 use Rattle.running_sum.specs.declared.RunningSum.{RunningSum}

@@ -16,10 +16,8 @@ use Rattle.words.specs.Outcomes.{Outcome}
 use Rattle.words.specs.Outcomes.{Done, Refused}
 use Rattle.words.specs.Kinds.{RoundBitWord}
 use Rattle.running_sum.specs.declared.RunningSum.{RunningSum}
-use Rattle.running_sum.specs.declared.OpenAnswer.{OpenAnswer}
-use Rattle.running_sum.specs.declared.PutAnswer.{PutAnswer}
-use Rattle.running_sum.specs.declared.HandOutAnswer.{HandOutAnswer}
-use Rattle.running_sum.specs.declared.EmptyAnswer.{EmptyAnswer}
+use Rattle.running_sum.specs.declared.SumAnswer.{SumAnswer}
+use Rattle.running_sum.specs.declared.HandedAnswer.{HandedAnswer}
 use Rattle.running_sum.specs.Steps.{Call, put, hand_out, empty, blank, running_sum_check, step_of, open_of}
 use Rattle.running_sum.specs.Totals.{Answered, accepted, handed_out, answered, left}
 use Rattle.running_sum.proofs.open.Reads as open-method
@@ -45,9 +43,9 @@ Links s done last = Chain Link s done last
 -- a link is the definition's step
 pub meets_step : (s : RunningSum) (c : Call) (o : Outcome) (v : RoundBitWord) (t : RunningSum) → Meets s c o v t →
     (o ≡ (step_of s c).outcome) × (v ≡ (step_of s c).word) × (t ≡ (step_of s c).sum)
-meets_step s (put w) o v t m = (ap (λ (a : PutAnswer). a.outcome) m.0, m.1 ∙ sym (put_blank s w), ap (λ (a : PutAnswer). a.sum) m.0)
-meets_step s hand_out o v t m = (ap (λ (a : HandOutAnswer). a.outcome) m, ap (λ (a : HandOutAnswer). a.word) m, ap (λ (a : HandOutAnswer). a.sum) m)
-meets_step s empty o v t m = (ap (λ (a : EmptyAnswer). a.outcome) m, ap (λ (a : EmptyAnswer). a.word) m, ap (λ (a : EmptyAnswer). a.sum) m)
+meets_step s (put w) o v t m = (ap (λ (a : SumAnswer). a.outcome) m.0, m.1 ∙ sym (put_blank s w), ap (λ (a : SumAnswer). a.sum) m.0)
+meets_step s hand_out o v t m = (ap (λ (a : HandedAnswer). a.outcome) m, ap (λ (a : HandedAnswer). a.word) m, ap (λ (a : HandedAnswer). a.sum) m)
+meets_step s empty o v t m = (ap (λ (a : HandedAnswer). a.outcome) m, ap (λ (a : HandedAnswer). a.word) m, ap (λ (a : HandedAnswer). a.sum) m)
 
 calls : List Answered → List Call
 calls done = map (λ (a : Answered). a.call) done
@@ -73,7 +71,7 @@ linked_refused s c r v t m =
     (p.2 ∙ q.0, p.1 ∙ q.1)
 
 -- ---- the theorem of the code: a chain from the sum that an opening gave
-module _ (n : ℕ) (e : ℤ) (d : ℕ) (a : OpenAnswer) (opening : open-method.Post tt (n, (e, (d, tt))) a (n, (e, (d, tt)))) where
+module _ (n : ℕ) (e : ℤ) (d : ℕ) (a : SumAnswer) (opening : open-method.Post tt (n, (e, (d, tt))) a (n, (e, (d, tt)))) where
   abbrev unit : ℤ
   unit = a.sum.kept.format.unit
 
@@ -84,7 +82,7 @@ module _ (n : ℕ) (e : ℤ) (d : ℕ) (a : OpenAnswer) (opening : open-method.P
       let r = links_run chain in
       let t : accepted unit (answered a.sum (calls done)) ≡ handed_out unit (answered a.sum (calls done)) +ℤ round_bit_value
       (left a.sum (calls done)).kept =
-      subst (λ (o : OpenAnswer). let u = o.sum.kept.format.unit in accepted u (answered o.sum (calls done)) ≡ handed_out u
+      subst (λ (o : SumAnswer). let u = o.sum.kept.format.unit in accepted u (answered o.sum (calls done)) ≡ handed_out u
       (answered o.sum (calls done)) +ℤ round_bit_value (left o.sum (calls done)).kept) (sym opening) (totals n e d (calls done)) in
       ap (accepted unit) r.0
       ∙ t
@@ -96,15 +94,15 @@ module _ (n : ℕ) (e : ℤ) (d : ℕ) (a : OpenAnswer) (opening : open-method.P
     pub linked_unchanged : (last.kept.format ≡ a.sum.kept.format) × (last.depth ≡ a.sum.depth)
     linked_unchanged =
         let r = links_run chain in
-        let u = subst (λ (o : OpenAnswer). ((left o.sum (calls done)).kept.format ≡ o.sum.kept.format) ×
+        let u = subst (λ (o : SumAnswer). ((left o.sum (calls done)).kept.format ≡ o.sum.kept.format) ×
         ((left o.sum (calls done)).depth ≡ o.sum.depth)) (sym opening) (unchanged n e d (calls done)) in
         (ap (λ (s : RunningSum). s.kept.format) r.1 ∙ u.0, ap (λ (s : RunningSum). s.depth) r.1 ∙ u.1)
 
     pub linked_passes : a.outcome ≡ Done → running_sum_check last ≡ Done
     linked_passes h =
         let r = links_run chain in
-        let o = sym (ap (λ (x : OpenAnswer). x.outcome) opening) ∙ h in
-        let p = subst (λ (x : OpenAnswer). running_sum_check (left x.sum (calls done)) ≡ Done) (sym opening) (never_refused n e d (calls done) o) in
+        let o = sym (ap (λ (x : SumAnswer). x.outcome) opening) ∙ h in
+        let p = subst (λ (x : SumAnswer). running_sum_check (left x.sum (calls done)) ≡ Done) (sym opening) (never_refused n e d (calls done) o) in
         ap running_sum_check r.1 ∙ p
 
     -- after a refused opening every call is refused and the sum stays the blank one
@@ -112,8 +110,8 @@ module _ (n : ℕ) (e : ℤ) (d : ℕ) (a : OpenAnswer) (opening : open-method.P
         (o ≡ Done → ⊥) × (last ≡ shut)
     linked_shut h c o v t m =
         let r = links_run chain in
-        let q = always_refused n e d (calls done) c (λ k. h (ap (λ (x : OpenAnswer). x.outcome) opening ∙ k)) in
-        let same : last ≡ left (open_of n e d).sum (calls done) = r.1 ∙ ap (λ (x : OpenAnswer). left x.sum (calls done)) opening in
+        let q = always_refused n e d (calls done) c (λ k. h (ap (λ (x : SumAnswer). x.outcome) opening ∙ k)) in
+        let same : last ≡ left (open_of n e d).sum (calls done) = r.1 ∙ ap (λ (x : SumAnswer). left x.sum (calls done)) opening in
         let p = meets_step last c o v t m in
         (λ k. q.0 (ap (λ (s : RunningSum). (step_of s c).outcome) (sym same) ∙ sym p.0 ∙ k), same ∙ q.1)
 

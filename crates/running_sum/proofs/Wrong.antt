@@ -11,7 +11,7 @@ use Rattle.integers.specs.Numbers.{fits_width, floor_by, lowest, digit, digits_b
 use Rattle.integers.specs.Lists.{first_bad, all}
 use Rattle.words.specs.Refusals.{format_check, word_check}
 use Rattle.words.specs.Formats.{format, narrower_check}
-use Rattle.words.specs.RoundBit.{round_bit_word, round_bit_check, round_bit_fitted}
+use Rattle.words.specs.RoundBit.{round_bit_word, round_bit_fitted}
 use Rattle.words.specs.Flat.{Flat, flat, laid_flat, same_flat, round_bit_at, refused as no_word}
 use Rattle.words.specs.Outcomes.{Outcome}
 use Rattle.words.specs.Kinds.{RoundBitWord}

@@ -11,10 +11,8 @@ use Rattle.words.specs.RoundBit.{round_bit_word, round_bit_check}
 use Rattle.round_bit.specs.Cuts.{cut_of, rest_of}
 use Rattle.round_bit.specs.Arithmetic.{sum_of}
 use Rattle.running_sum.specs.declared.RunningSum.{RunningSum}
-use Rattle.running_sum.specs.declared.OpenAnswer.{OpenAnswer}
-use Rattle.running_sum.specs.declared.PutAnswer.{PutAnswer}
-use Rattle.running_sum.specs.declared.HandOutAnswer.{HandOutAnswer}
-use Rattle.running_sum.specs.declared.EmptyAnswer.{EmptyAnswer}
+use Rattle.running_sum.specs.declared.SumAnswer.{SumAnswer}
+use Rattle.running_sum.specs.declared.HandedAnswer.{HandedAnswer}
 
 -- the blank word, and (0,0) in a format
 abbrev pub blank : RoundBitWord
@@ -37,13 +35,17 @@ depth_check f d =
 abbrev pub open_check : Format → ℕ → Outcome
 open_check f d = format_check f or_else depth_check f d
 
--- "it keeps a round-bit word of width N and unit e, at first (0,0)". Refused, "it then gives a sum
+-- "it keeps a round-bit word of width N and unit e, at first (0,0)"
+abbrev pub opened : Format → ℕ → RunningSum
+opened f d = made (nothing f) d
+
+-- Refused, "it then gives a sum
 -- that keeps the blank word at depth 0"
-unfoldable pub open_answer : Outcome → Format → ℕ → OpenAnswer
-open_answer (Ok tt) f d = record { outcome = Done; sum = made (nothing f) d }
+unfoldable pub open_answer : Outcome → Format → ℕ → SumAnswer
+open_answer (Ok _) f d = record { outcome = Done; sum = opened f d }
 open_answer (Err c) f d = record { outcome = Refused c; sum = made blank 0 }
 
-unfoldable pub open_of : ℕ → ℤ → ℕ → OpenAnswer
+unfoldable pub open_of : ℕ → ℤ → ℕ → SumAnswer
 open_of n e d = open_answer (open_check (format n e) d) (format n e) d
 
 pub data Call : Type 0 where
@@ -66,7 +68,7 @@ keeping s w = record { kept = w; depth = s.depth }
 
 -- done, with a word and the new sum; or a refusal, with the blank word and the sum as it was
 unfoldable pub stepped : Outcome → RoundBitWord → RunningSum → RunningSum → Step
-stepped (Ok tt) w new old = record { outcome = Done; word = w; sum = new }
+stepped (Ok _) w new old = record { outcome = Done; word = w; sum = new }
 stepped (Err c) w new old = record { outcome = Refused c; word = blank; sum = old }
 
 -- the sum "is the first operand, refused by 1, 2, 3 for its kept word and by 5 and 7 for its depth"
@@ -91,11 +93,11 @@ step_of s hand_out =
 step_of s empty = stepped (running_sum_check s) s.kept (keeping s (nothing s.kept.format)) s
 
 -- the three methods' answers
-abbrev pub put_answer : Step → PutAnswer
+abbrev pub put_answer : Step → SumAnswer
 put_answer t = record { outcome = t.outcome; sum = t.sum }
 
-abbrev pub hand_out_answer : Step → HandOutAnswer
+abbrev pub hand_out_answer : Step → HandedAnswer
 hand_out_answer t = record { outcome = t.outcome; word = t.word; sum = t.sum }
 
-abbrev pub empty_answer : Step → EmptyAnswer
+abbrev pub empty_answer : Step → HandedAnswer
 empty_answer t = record { outcome = t.outcome; word = t.word; sum = t.sum }

@@ -2,7 +2,6 @@
 -- the sum's unit alone.
 use Rattle.std.specs.Prelude.{Ok, Err, ℕ, ◌^◌, List, [], ◌∷◌, ℤ, pos, negsuc, ◌+ℤ◌, ◌-ℤ◌, ◌*ℤ◌}
 use Rattle.words.specs.Outcomes.{Outcome}
-use Rattle.words.specs.Outcomes.{Done, Refused}
 use Rattle.words.specs.Kinds.{RoundBitWord}
 use Rattle.words.specs.RoundBit.{round_bit_value}
 use Rattle.running_sum.specs.declared.RunningSum.{RunningSum}
@@ -39,16 +38,16 @@ amount e w = round_bit_value w *ℤ pos (coarser (w.format.unit -ℤ e))
 -- what a call and its answer add to the words accepted, and to the words handed out; only done
 -- answers count
 unfoldable pub taken_in : ℤ → Call → Outcome → ℤ
-taken_in e (put w) (Ok tt) = amount e w
+taken_in e (put w) (Ok _) = amount e w
 taken_in e (put w) (Err c) = pos 0
 taken_in e hand_out o = pos 0
 taken_in e empty o = pos 0
 
 unfoldable pub given_out : ℤ → Call → Outcome → RoundBitWord → ℤ
 given_out e (put v) o w = pos 0
-given_out e hand_out (Ok tt) w = amount e w
+given_out e hand_out (Ok _) w = amount e w
 given_out e hand_out (Err c) w = pos 0
-given_out e empty (Ok tt) w = amount e w
+given_out e empty (Ok _) w = amount e w
 given_out e empty (Err c) w = pos 0
 
 unfoldable pub accepted : ℤ → List Answered → ℤ

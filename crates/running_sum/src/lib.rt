@@ -10,10 +10,14 @@
 #![tactic(auto)]
 
 ghost use Rattle.std.specs.Prelude.{◌≡◌};
-ghost use Rattle.words.specs.Refusals.{blank_format};
-ghost use Rattle.running_sum.specs.Steps.{blank, made, depth_check, open_check, open_answer, open_of, put, hand_out, empty, step_of, running_sum_check, put_check, keeping, put_answer, hand_out_answer, empty_answer};
+ghost use Rattle.words.specs.Outcomes.{Refused, given};
+ghost use Rattle.words.specs.Refusals.{◌or_else◌};
+ghost use Rattle.round_bit.specs.Cuts.{cut_of, rest_of};
+ghost use Rattle.round_bit.specs.Arithmetic.{sum_of};
+ghost use Rattle.running_sum.specs.Steps.{blank, depth_check, open_check, open_of, opened, put, hand_out, empty, step_of, running_sum_check, put_check, keeping, put_answer, hand_out_answer, empty_answer};
 
-use words::{Cause, Format, Outcome, RoundBit, RoundBitWord};
+use round_bit::CutAndRest;
+use words::{Cause, Format, Outcome, RoundBit, RoundBitWord, Word, refuse_for};
 
 #[derive(Clone, Copy)]
 pub struct RunningSum {
@@ -21,63 +25,41 @@ pub struct RunningSum {
     pub depth: u64,
 }
 
-// The answer of an opening: a refused one keeps the blank word at depth 0.
+// The answer of an opening, where a refused one keeps the blank word at depth 0, and of a put, which hands
+// back no word.
 #[derive(Clone, Copy)]
-pub struct OpenAnswer {
+pub struct SumAnswer {
     pub outcome: Outcome,
     pub sum: RunningSum,
 }
 
-// The answer of a put. It hands back no word.
+// The answer of a hand-out and of an emptying.
 #[derive(Clone, Copy)]
-pub struct PutAnswer {
-    pub outcome: Outcome,
-    pub sum: RunningSum,
-}
-
-// The answer of a hand-out.
-#[derive(Clone, Copy)]
-pub struct HandOutAnswer {
-    pub outcome: Outcome,
-    pub word: RoundBitWord,
-    pub sum: RunningSum,
-}
-
-// The answer of an emptying.
-#[derive(Clone, Copy)]
-pub struct EmptyAnswer {
+pub struct HandedAnswer {
     pub outcome: Outcome,
     pub word: RoundBitWord,
     pub sum: RunningSum,
 }
 
 // 5, then 7. A depth that is not 0 leaves at least 2 digits exactly where a cut by it does.
-fn depth_check(f: Format, d: u64) -> Outcome
-    ensures { result ≡ depth_check f d }
+fn depth_check(format: Format, depth: u64) -> Outcome
+    ensures { result ≡ depth_check format depth }
 {
-    if let Outcome::Refused(c) = words::refuse_for(Cause::Depth, d == 0) {
-        Outcome::Refused(c)
-    } else {
-        let a = words::narrower(f, d);
-        a.outcome
-    }
-}
-
-fn open_check(f: Format, d: u64) -> Outcome
-    ensures { result ≡ open_check f d }
-{
-    if let Outcome::Refused(c) = words::format_check(f) {
-        Outcome::Refused(c)
-    } else {
-        depth_check(f, d)
-    }
+    refuse_for(Cause::Depth, depth == 0)?;
+    format.narrower(depth).and(Ok(()))
 }
 
 // A running sum is made here, and by `keeping` from another.
-fn opened(w: RoundBitWord, d: u64) -> RunningSum
-    ensures { result ≡ made w d }
+fn opened(format: Format, depth: u64) -> Result<RunningSum, Cause>
+    ensures { result ≡ given (open_check format depth) (opened format depth) }
 {
-    RunningSum { kept: w, depth: d }
+    format.check()?;
+    depth_check(format, depth)?;
+    let kept = Word {
+        number: RoundBit(0, 0),
+        format,
+    };
+    Ok(RunningSum { kept, depth })
 }
 
 fn keeping(s: RunningSum, w: RoundBitWord) -> RunningSum
@@ -90,199 +72,119 @@ fn keeping(s: RunningSum, w: RoundBitWord) -> RunningSum
     }
 }
 
-fn open_refused(c: Cause) -> OpenAnswer
-    ensures { result ≡ open_answer (Outcome.Refused c) blank_format 0 }
-{
-    let a = words::round_bit_refused(c);
-    let s = opened(a.word, 0);
-    OpenAnswer {
-        outcome: Outcome::Refused(c),
-        sum: s,
-    }
-}
-
-fn open_done(f: Format, d: u64) -> OpenAnswer
-    ensures { result ≡ open_answer Outcome.Done f d }
-{
-    let w = RoundBitWord {
-        number: RoundBit(0, 0),
-        format: f,
-    };
-    let s = opened(w, d);
-    OpenAnswer {
-        outcome: Outcome::Done,
-        sum: s,
-    }
-}
-
 // Opens a sum of this width, unit and depth.
-pub fn open(width: u32, unit: i32, depth: u64) -> OpenAnswer
+pub fn open(width: u32, unit: i32, depth: u64) -> SumAnswer
     ensures { result ≡ open_of width unit depth }
 {
-    let f = Format {
-        width: width,
-        unit: unit,
-    };
-    match open_check(f, depth) {
-        Outcome::Refused(c) => open_refused(c),
-        Outcome::Done => open_done(f, depth),
-    }
-}
-
-// What every call asks of the sum: 1, 2, 3 of its kept word, then 5 and 7 of its depth.
-fn running_sum_check(s: RunningSum) -> Outcome
-    ensures { result ≡ running_sum_check s }
-{
-    if let Outcome::Refused(c) = words::round_bit_check(s.kept) {
-        Outcome::Refused(c)
-    } else {
-        depth_check(s.kept.format, s.depth)
-    }
-}
-
-// All that a put asks but the sum's own 8: the lowest of 4, 5 and 7 comes after both words' 1, 2, 3.
-fn put_check(s: RunningSum, w: RoundBitWord) -> Outcome
-    ensures { result ≡ put_check s w }
-{
-    if let Outcome::Refused(c) = words::round_bit_check(s.kept) {
-        Outcome::Refused(c)
-    } else if let Outcome::Refused(c) = words::round_bit_check(w) {
-        Outcome::Refused(c)
-    } else if let Outcome::Refused(c) = words::refuse_for(
-        Cause::Mismatch,
-        words::differ(s.kept.format, w.format),
-    ) {
-        Outcome::Refused(c)
-    } else {
-        depth_check(s.kept.format, s.depth)
-    }
-}
-
-fn put_refused(c: Cause, s: RunningSum) -> PutAnswer
-    ensures { result ≡ record { outcome = Outcome.Refused c; sum = s } }
-{
-    PutAnswer {
-        outcome: Outcome::Refused(c),
-        sum: s,
-    }
-}
-
-fn put_done(s: RunningSum) -> PutAnswer
-    ensures { result ≡ record { outcome = Outcome.Done; sum = s } }
-{
-    PutAnswer {
-        outcome: Outcome::Done,
-        sum: s,
-    }
-}
-
-fn hand_out_refused(c: Cause, s: RunningSum) -> HandOutAnswer
-    ensures { result ≡ record { outcome = Outcome.Refused c; word = blank; sum = s } }
-{
-    let a = words::round_bit_refused(c);
-    let blank = a.word;
-    HandOutAnswer {
-        outcome: Outcome::Refused(c),
-        word: blank,
-        sum: s,
-    }
-}
-
-fn hand_out_done(w: RoundBitWord, s: RunningSum) -> HandOutAnswer
-    ensures { result ≡ record { outcome = Outcome.Done; word = w; sum = s } }
-{
-    HandOutAnswer {
-        outcome: Outcome::Done,
-        word: w,
-        sum: s,
-    }
-}
-
-fn empty_refused(c: Cause, s: RunningSum) -> EmptyAnswer
-    ensures { result ≡ record { outcome = Outcome.Refused c; word = blank; sum = s } }
-{
-    let a = words::round_bit_refused(c);
-    let blank = a.word;
-    EmptyAnswer {
-        outcome: Outcome::Refused(c),
-        word: blank,
-        sum: s,
-    }
-}
-
-fn empty_done(w: RoundBitWord, s: RunningSum) -> EmptyAnswer
-    ensures { result ≡ record { outcome = Outcome.Done; word = w; sum = s } }
-{
-    EmptyAnswer {
-        outcome: Outcome::Done,
-        word: w,
-        sum: s,
+    match opened(Format { width, unit }, depth) {
+        Ok(sum) => SumAnswer {
+            outcome: Ok(()),
+            sum,
+        },
+        Err(cause) => SumAnswer {
+            outcome: Err(cause),
+            sum: RunningSum {
+                kept: Word::blank(),
+                depth: 0,
+            },
+        },
     }
 }
 
 impl RunningSum {
+    // What every call asks of the sum: 1, 2, 3 of its kept word, then 5 and 7 of its depth.
+    fn check(self) -> Outcome
+        ensures { result ≡ running_sum_check self }
+    {
+        self.kept.check()?;
+        depth_check(self.kept.format, self.depth)
+    }
+
+    // What a put keeps. The lowest of 4, 5 and 7 comes after both words' 1, 2, 3, and 8 last.
+    fn sum_with(self, word: RoundBitWord) -> Result<RoundBitWord, Cause>
+        ensures { let a = sum_of self.kept word in result ≡ given (put_check self word or_else a.outcome) a.word }
+    {
+        self.kept.sum_check(word)?;
+        depth_check(self.kept.format, self.depth)?;
+        let answer = round_bit::sum(self.kept, word);
+        answer.outcome?;
+        Ok(answer.word)
+    }
+
+    // What a hand-out hands out and keeps.
+    fn cut(self) -> Result<CutAndRest, Cause>
+        ensures { result ≡ given (running_sum_check self) (record { word = (cut_of self.kept self.depth).word; rest = (rest_of self.kept self.depth).word }) }
+    {
+        self.kept.check()?;
+        refuse_for(Cause::Depth, self.depth == 0)?;
+        round_bit::cut_and_rest(self.kept, self.depth)
+    }
+
+    // A call that hands out and is refused leaves the sum as it was.
+    fn refused(self, cause: Cause) -> HandedAnswer
+        ensures { result ≡ record { outcome = Refused cause; word = blank; sum = self } }
+    {
+        HandedAnswer {
+            outcome: Err(cause),
+            word: Word::blank(),
+            sum: self,
+        }
+    }
+
     // Put: kept becomes the sum of kept and the word.
-    pub fn put(mut self, word: RoundBitWord) -> PutAnswer
+    pub fn put(mut self, word: RoundBitWord) -> SumAnswer
         ensures { result ≡ put_answer (step_of self (put word)) }
     {
-        if let Outcome::Refused(c) = put_check(self, word) {
-            put_refused(c, self)
-        } else {
-            let a = round_bit::sum(self.kept, word);
-            let fit = a.outcome;
-            if let Outcome::Refused(c) = fit {
-                put_refused(c, self)
-            } else {
-                self = keeping(self, a.word);
-                put_done(self)
-            }
+        let sum = self.sum_with(word);
+        if let Ok(total) = sum {
+            self = keeping(self, total);
+        }
+        SumAnswer {
+            outcome: sum.and(Ok(())),
+            sum: self,
         }
     }
 
     // Hand out: the cut of kept by the depth; kept becomes the rest.
-    pub fn hand_out(mut self) -> HandOutAnswer
+    pub fn hand_out(mut self) -> HandedAnswer
         ensures { result ≡ hand_out_answer (step_of self hand_out) }
     {
-        if let Outcome::Refused(c) = words::round_bit_check(self.kept) {
-            hand_out_refused(c, self)
-        } else if let Outcome::Refused(c) = words::refuse_for(Cause::Depth, self.depth == 0) {
-            hand_out_refused(c, self)
-        } else {
-            let a = round_bit::cut_and_rest(self.kept, self.depth);
-            let o = a.outcome;
-            if let Outcome::Refused(c) = o {
-                hand_out_refused(c, self)
-            } else {
-                let word = a.word;
-                let rest = a.rest;
-                let f = rest.format;
+        match self.cut() {
+            Err(cause) => self.refused(cause),
+            Ok(CutAndRest { word, rest }) => {
                 // The round bit too: without it the trace creeps.
-                let kept = RoundBitWord {
+                let kept = Word {
                     number: RoundBit(rest.number.0, rest.number.1),
-                    format: f,
+                    format: rest.format,
                 };
                 self = keeping(self, kept);
-                hand_out_done(word, self)
+                HandedAnswer {
+                    outcome: Ok(()),
+                    word,
+                    sum: self,
+                }
             }
         }
     }
 
     // Empty: the kept word whole; kept becomes (0,0).
-    pub fn empty(mut self) -> EmptyAnswer
+    pub fn empty(mut self) -> HandedAnswer
         ensures { result ≡ empty_answer (step_of self empty) }
     {
-        if let Outcome::Refused(c) = running_sum_check(self) {
-            empty_refused(c, self)
-        } else {
-            let word = self.kept;
-            let f = word.format;
-            let zero = RoundBit(0, 0);
-            let nothing = RoundBitWord {
-                number: zero,
-                format: f,
-            };
-            self = keeping(self, nothing);
-            empty_done(word, self)
+        if let Err(cause) = self.check() {
+            return self.refused(cause);
+        }
+        let word = self.kept;
+        let zero = RoundBit(0, 0);
+        let nothing = Word {
+            number: zero,
+            format: word.format,
+        };
+        self = keeping(self, nothing);
+        HandedAnswer {
+            outcome: Ok(()),
+            word,
+            sum: self,
         }
     }
 }

@@ -1,5 +1,5 @@
 -- What a call answers that works out a `Result`: the answers of specs/ are those of what it worked out. Assumes nothing.
--- Proved here: `answer_then`, `answer_given`, `answer_fitted`, `ok_given`, `given_is`, `then_is`.
+-- Proved here: `answer_then`, `answer_given`, `answer_fitted`, `ok_given`, `err_given`, `given_is`, `then_is`.
 use mathlib.Core.Path.{◌≡◌, refl}
 use Rattle.std.specs.Prelude.{Result, Ok, Err}
 use Rattle.words.specs.declared.Cause.{Cause}
@@ -30,6 +30,10 @@ module _ {N : Type 0} (zero : N) where
 pub ok_given : {A : Type 0} (o : Outcome) (a b : A) → Ok b ≡ given o a → (o ≡ Done) × (b ≡ a)
 ok_given (Ok tt) a b e = (refl, cc)
 ok_given (Err c) a b e = absurd cc
+
+pub err_given : {A : Type 0} (o : Outcome) (a : A) (c : Cause) → Err c ≡ given o a → o ≡ Refused c
+err_given (Ok tt) a c e = absurd cc
+err_given (Err d) a c e = cc
 
 pub given_is : {A : Type 0} {o : Outcome} {a b : A} → o ≡ Done → a ≡ b → Ok a ≡ given o b
 given_is e f = rw (e, f)

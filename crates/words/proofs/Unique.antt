@@ -12,6 +12,7 @@ use Rattle.words.proofs.Format.formed.Reads as formed
 use Rattle.words.proofs.Format.units_multiplied.Reads as units-multiplied
 use Rattle.words.proofs.Format.wider.Reads as wider
 use Rattle.words.proofs.Format.narrower.Reads as narrower
+use Rattle.words.proofs.Word.blank.Reads as blank
 use Rattle.words.proofs.Word.check.Reads as word-check
 use Rattle.words.proofs.Word.fitted.Reads as fitted
 use Rattle.words.proofs.Word.sum_check.Reads as sum-check
@@ -47,6 +48,9 @@ wider_one a x y e f p q = p ∙ sym q
 
 narrower_one : OneResult (narrower.Post tt)
 narrower_one a x y e f p q = p ∙ sym q
+
+blank_one : (N : RattleType) (l c g d h k t : _) → OneResult (blank.Post N l c g d h k t)
+blank_one N l c g d h k t a x y e f p q = p ∙ sym q
 
 word_check_one : (N : RattleType) (l c g d h k t : _) → OneResult (word-check.Post N l c g d h k t)
 word_check_one N l c g d h k t a x y e f p q = p ∙ sym q

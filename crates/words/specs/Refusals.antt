@@ -43,7 +43,7 @@ cause_number Channel = 17
 
 -- "Done is 0."
 abbrev pub number_of : Outcome → ℕ
-number_of (Ok tt) = 0
+number_of (Ok _) = 0
 number_of (Err c) = cause_number c
 
 -- a cause, given exactly when its test holds
@@ -67,11 +67,11 @@ row n = row_in causes n
 -- a test's refusal, where a row was found, and else nothing that takes a test
 abbrev pub Refuse : Outcome → Type 0
 Refuse (Err c) = Bool → Outcome
-Refuse (Ok tt) = record {}
+Refuse (Ok _) = record {}
 
 abbrev refuse_at : (o : Outcome) → Refuse o
 refuse_at (Err c) = refuse_for c
-refuse_at (Ok tt) = record {}
+refuse_at (Ok _) = record {}
 
 -- `refuse n test`: the refusal that the table numbers n. For a number that the table lacks there is
 -- none, and `refuse 18 test` has no type
@@ -81,7 +81,7 @@ refuse n = refuse_at (row n)
 -- "With several causes: .. then .. then ..": the first that is given
 infixr 4 ◌or_else◌
 abbrev pub ◌or_else◌ : Outcome → Outcome → Outcome
-Ok tt or_else o = o
+Ok _ or_else o = o
 Err c or_else o = Refused c
 
 -- 1 and 2 of a width and a unit; done where there is none
@@ -103,18 +103,18 @@ abbrev pub blank_format : Format
 blank_format = record { width = 2; unit = pos 0 }
 
 abbrev pub after : {A : Type 0} → (Cause → A) → Outcome → A → A
-after refused (Ok tt) answer = answer
+after refused (Ok _) answer = answer
 after refused (Err c) answer = refused c
 
 -- "Only the named places are written", the first ones; at a refusal "lent buffers .. stay as they
 -- were"
 unfoldable pub lent_after : {A : Type 0} → Outcome → List A → List A → List A
-lent_after (Ok tt) new old = at_front new old
+lent_after (Ok _) new old = at_front new old
 lent_after (Err c) new old = old
 
 -- "Writing a digit text or a file answers the count of bytes written, 0 when refused."
 unfoldable pub write_answer : Outcome → ℕ → WriteAnswer
-write_answer (Ok tt) n = record { outcome = Done; count = n }
+write_answer (Ok _) n = record { outcome = Done; count = n }
 write_answer (Err c) n = record { outcome = Refused c; count = 0 }
 
 abbrev pub write_answer_of : Result ℕ Cause → WriteAnswer

@@ -15,7 +15,7 @@ ghost use Rattle.words.specs.Outcomes.{given};
 ghost use Rattle.words.specs.Words.{bad_width, bad_unit, outside, bad_round_bit};
 ghost use Rattle.words.specs.Refusals.{cause_number, number_of, refuse_for, format_check, word_check, differ, refuse, ◌or_else◌, write_answer_of};
 ghost use Rattle.words.specs.Formats.{format, narrower, narrower_check, wider, units_multiplied, answer_check};
-ghost use Rattle.words.specs.Answers.{answer_of, cut_answer};
+ghost use Rattle.words.specs.Answers.{blank_of, answer_of, cut_answer};
 
 // Why a call refuses, in the table's order and with the table's numbers.
 #[derive(Clone, Copy, Debug, PartialEq, Eq)]
@@ -187,10 +187,7 @@ impl<N: Digits> From<Result<Word<N>, Cause>> for Answer<N> {
             },
             Err(cause) => Answer {
                 outcome: Err(cause),
-                word: Word {
-                    number: N::zero(),
-                    format: Format::BLANK,
-                },
+                word: Word::blank(),
             },
         }
     }
@@ -363,6 +360,16 @@ impl Format {
 }
 
 impl<N: Digits> Word<N> {
+    // What a refusal hands back.
+    pub fn blank() -> Word<N>
+        ensures { result ≡ blank_of N.zero }
+    {
+        Word {
+            number: N::zero(),
+            format: Format::BLANK,
+        }
+    }
+
     // The first of the causes 1, 2 and 3.
     #[tactic(auto, unfolding(crate::specs::Refusals::word_check))]
     pub fn check(self) -> Outcome

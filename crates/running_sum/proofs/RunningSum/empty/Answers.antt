@@ -1,12 +1,10 @@
 use Rattle.running_sum.specs.Steps.{stepped, step_of}
 use Rattle.running_sum.proofs.RunningSum.empty.Goals as goal
 
-pub returns-in-Refused : goal.returns-in-Refused
+pub returns-in-Err : goal.returns-in-Err
 unfolding step_of stepped
-returns-in-Refused c =
-    rw (c.empty_refused.ensures, ← c.running_sum_check.ensures, c.in-Refused.is)
+returns-in-Err c = rw (c.refused.ensures, ← c.in-Err.ensures)
 
-pub returns-in_default : goal.returns-in_default
+pub returns : goal.returns
 unfolding step_of stepped
-returns-in_default c =
-    rw (c.empty_done.ensures, ← c.running_sum_check.ensures, c.in_default.is, c.keeping-self.ensures)
+returns c = rw (← c.in_default.ensures, c.keeping-self.ensures)

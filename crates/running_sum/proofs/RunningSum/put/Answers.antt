@@ -1,18 +1,13 @@
+use Rattle.words.proofs.Given.{ok_given, err_given}
 use Rattle.running_sum.specs.Steps.{stepped, step_of}
 use Rattle.running_sum.proofs.RunningSum.put.Goals as goal
+use Rattle.running_sum.proofs.RunningSum.put.Goals.{in-Ok, in_default}
 
-pub returns-in-Refused : goal.returns-in-Refused
+pub returns : goal.returns
 unfolding step_of stepped
-returns-in-Refused c =
-    rw (c.put_refused.ensures, ← c.put_check.ensures, c.in-Refused.is)
-
-pub returns-in-Refused-fit : goal.returns-in-Refused-fit
-unfolding step_of stepped
-returns-in-Refused-fit c =
-    rw (c.put_refused-in-Refused-fit.ensures, ← c.put_check.ensures, c.in_default.is, ← c.sum-a.ensures, c.in-Refused-fit.is)
-
-pub returns-in_default-fit : goal.returns-in_default-fit
-unfolding step_of stepped
-returns-in_default-fit c =
-    let fits = c.in_default-fit.is in
-    rw (c.put_done.ensures, ← c.put_check.ensures, c.in_default.is, ← c.sum-a.ensures, fits, c.keeping-self.ensures)
+returns c = elim c.match-sum.branch [
+  | in-Ok w ↦
+      let p = ok_given _ _ _ w.in-Ok.ensures in
+      rw (c.and.ensures, w.sum-is, w.self-is, w.keeping-self.ensures, p.0, p.1)
+  | in_default w ↦ rw (c.and.ensures, w.sum-is, w.self-is, w.in_default.is, err_given _ _ _ w.in_default.ensures)
+]
