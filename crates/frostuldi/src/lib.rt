@@ -26,16 +26,16 @@ ghost use Rattle.block_file.specs.Writing.{write_of as file_write_of, file_after
 ghost use Rattle.reading.specs.Readings.{reading_of_run};
 ghost use Rattle.block_sum.specs.Sums.{block_sum_of};
 ghost use Rattle.listing_text.specs.Listing.{list_of, text_after};
-ghost use Rattle.frostuldi.specs.Boundary.{version, plain_in, half_unit_in, round_bit_in, sum_in, taps_in, window_in, bank_in, flat_plain, flat_half_unit, flat_round_bit, plain_out, half_unit_out, round_bit_out, sum_out, text_out, head_out, written_out, reading_out, block_sum_out};
+ghost use Rattle.frostuldi.specs.Boundary.{version, plain_in, half_unit_in, round_bit_in, sum_in, window_in, bank_in, flat_plain, flat_half_unit, flat_round_bit, flat_sum, plain_out, half_unit_out, round_bit_out, sum_out, text_out, head_out, written_out, flat_reading, reading_out, block_sum_out};
 
 use block_file::ReadAnswer;
 use block_sum::BlockSumAnswer;
 use digit_text::ReadAnswer as TextAnswer;
-use reading::ReadingAnswer;
-use running_sum::RunningSum;
+use reading::{Reading, ReadingAnswer};
+use running_sum::{HandedAnswer, RunningSum, SumAnswer};
 use words::{
-    Format, HalfUnit, HalfUnitAnswer, HalfUnitWord, Outcome, Plain, PlainAnswer, PlainWord,
-    RoundBit, RoundBitAnswer, RoundBitWord, WriteAnswer,
+    CutAnswer, Format, HalfUnit, HalfUnitAnswer, HalfUnitWord, Plain, PlainAnswer, PlainWord,
+    RoundBit, RoundBitAnswer, RoundBitWord, Word, WriteAnswer,
 };
 
 #[repr(C)]
@@ -167,80 +167,65 @@ pub struct FrostBlockSumAnswer {
     pub refusal: u32,
 }
 
-const BLANK: RoundBitWord = RoundBitWord {
-    number: RoundBit(0, 0),
-    format: Format { width: 2, unit: 0 },
-};
-
 // What comes in.
 
-fn plain_in(w: FrostPlain) -> PlainWord
-    ensures { result ≡ plain_in w }
-{
-    PlainWord {
-        number: Plain(w.number),
-        format: Format {
-            width: w.width,
-            unit: w.unit,
-        },
+impl From<FrostPlain> for PlainWord {
+    ghost from_gives = { λ w r. r ≡ plain_in w };
+
+    fn from(w: FrostPlain) -> PlainWord {
+        Word {
+            number: Plain(w.number),
+            format: Format {
+                width: w.width,
+                unit: w.unit,
+            },
+        }
     }
 }
 
-fn half_unit_in(w: FrostHalfUnit) -> HalfUnitWord
-    ensures { result ≡ half_unit_in w }
-{
-    HalfUnitWord {
-        number: HalfUnit(w.number),
-        format: Format {
-            width: w.width,
-            unit: w.unit,
-        },
+impl From<FrostHalfUnit> for HalfUnitWord {
+    ghost from_gives = { λ w r. r ≡ half_unit_in w };
+
+    fn from(w: FrostHalfUnit) -> HalfUnitWord {
+        Word {
+            number: HalfUnit(w.number),
+            format: Format {
+                width: w.width,
+                unit: w.unit,
+            },
+        }
     }
 }
 
-fn round_bit_in(w: FrostRoundBit) -> RoundBitWord
-    ensures { result ≡ round_bit_in w }
-{
-    RoundBitWord {
-        number: RoundBit(w.number, w.round),
-        format: Format {
-            width: w.width,
-            unit: w.unit,
-        },
+impl From<FrostRoundBit> for RoundBitWord {
+    ghost from_gives = { λ w r. r ≡ round_bit_in w };
+
+    fn from(w: FrostRoundBit) -> RoundBitWord {
+        Word {
+            number: RoundBit(w.number, w.round),
+            format: Format {
+                width: w.width,
+                unit: w.unit,
+            },
+        }
     }
 }
 
-fn sum_in(s: FrostRunningSum) -> RunningSum
-    ensures { result ≡ sum_in s }
-{
-    let kept = round_bit_in(s.kept);
-    let depth = s.depth;
-    RunningSum {
-        kept: kept,
-        depth: depth,
+impl From<FrostRunningSum> for RunningSum {
+    ghost from_gives = { λ s r. r ≡ sum_in s };
+
+    fn from(s: FrostRunningSum) -> RunningSum {
+        RunningSum {
+            kept: s.kept.into(),
+            depth: s.depth,
+        }
     }
 }
 
 fn eight_in(w: [FrostRoundBit; 8]) -> [RoundBitWord; 8]
     ensures { result ≡ map round_bit_in w }
 {
-    [
-        round_bit_in(w[0]),
-        round_bit_in(w[1]),
-        round_bit_in(w[2]),
-        round_bit_in(w[3]),
-        round_bit_in(w[4]),
-        round_bit_in(w[5]),
-        round_bit_in(w[6]),
-        round_bit_in(w[7]),
-    ]
-}
-
-fn taps_in(t: FrostTaps) -> [RoundBitWord; 8]
-    ensures { result ≡ taps_in t }
-{
-    let w = t.taps;
-    eight_in(w)
+    w.map(RoundBitWord::from)
 }
 
 // The taps of a channel, one of four. Each is read at its own place: at a place that is found the whole bank would be
@@ -250,180 +235,211 @@ fn row_in(bank: FrostBank, channel: u32) -> [RoundBitWord; 8]
     ensures { result ≡ row_of (bank_in bank) channel }
 {
     match channel {
-        0 => taps_in(bank.channels[0]),
-        1 => taps_in(bank.channels[1]),
-        2 => taps_in(bank.channels[2]),
-        _ => taps_in(bank.channels[3]),
+        0 => eight_in(bank.channels[0].taps),
+        1 => eight_in(bank.channels[1].taps),
+        2 => eight_in(bank.channels[2].taps),
+        _ => eight_in(bank.channels[3].taps),
     }
-}
-
-fn window_in(t: FrostWindow) -> [RoundBitWord; 8]
-    ensures { result ≡ window_in t }
-{
-    let w = t.samples;
-    eight_in(w)
 }
 
 // What goes out.
 
-fn flat_round_bit(w: RoundBitWord) -> FrostRoundBit
-    ensures { result ≡ flat_round_bit w }
-{
-    FrostRoundBit {
-        number: w.number.0,
-        width: w.format.width,
-        unit: w.format.unit,
-        round: w.number.1,
+impl From<PlainWord> for FrostPlain {
+    ghost from_gives = { λ w r. r ≡ flat_plain w };
+
+    fn from(w: PlainWord) -> FrostPlain {
+        FrostPlain {
+            number: w.number.0,
+            width: w.format.width,
+            unit: w.format.unit,
+        }
     }
 }
 
-fn flat_plain(w: PlainWord) -> FrostPlain
-    ensures { result ≡ flat_plain w }
-{
-    FrostPlain {
-        number: w.number.0,
-        width: w.format.width,
-        unit: w.format.unit,
+impl From<HalfUnitWord> for FrostHalfUnit {
+    ghost from_gives = { λ w r. r ≡ flat_half_unit w };
+
+    fn from(w: HalfUnitWord) -> FrostHalfUnit {
+        FrostHalfUnit {
+            number: w.number.0,
+            width: w.format.width,
+            unit: w.format.unit,
+        }
     }
 }
 
-fn flat_half_unit(w: HalfUnitWord) -> FrostHalfUnit
-    ensures { result ≡ flat_half_unit w }
-{
-    FrostHalfUnit {
-        number: w.number.0,
-        width: w.format.width,
-        unit: w.format.unit,
+impl From<RoundBitWord> for FrostRoundBit {
+    ghost from_gives = { λ w r. r ≡ flat_round_bit w };
+
+    fn from(w: RoundBitWord) -> FrostRoundBit {
+        FrostRoundBit {
+            number: w.number.0,
+            width: w.format.width,
+            unit: w.format.unit,
+            round: w.number.1,
+        }
     }
 }
 
-fn plain_out(o: Outcome, w: PlainWord) -> FrostPlainAnswer
-    ensures { result ≡ plain_out o w }
-{
-    let word = flat_plain(w);
-    FrostPlainAnswer {
-        word: word,
-        refusal: words::number_of(o),
+impl From<RunningSum> for FrostRunningSum {
+    ghost from_gives = { λ s r. r ≡ flat_sum s };
+
+    fn from(s: RunningSum) -> FrostRunningSum {
+        FrostRunningSum {
+            kept: s.kept.into(),
+            depth: s.depth,
+        }
     }
 }
 
-fn half_unit_out(o: Outcome, w: HalfUnitWord) -> FrostHalfUnitAnswer
-    ensures { result ≡ half_unit_out o w }
-{
-    let word = flat_half_unit(w);
-    FrostHalfUnitAnswer {
-        word: word,
-        refusal: words::number_of(o),
+impl From<PlainAnswer> for FrostPlainAnswer {
+    ghost from_gives = { λ a r. r ≡ plain_out a.outcome a.word };
+
+    fn from(a: PlainAnswer) -> FrostPlainAnswer {
+        FrostPlainAnswer {
+            word: a.word.into(),
+            refusal: words::number_of(a.outcome),
+        }
     }
 }
 
-fn round_bit_out(o: Outcome, w: RoundBitWord) -> FrostRoundBitAnswer
-    ensures { result ≡ round_bit_out o w }
-{
-    let word = flat_round_bit(w);
-    FrostRoundBitAnswer {
-        word: word,
-        refusal: words::number_of(o),
+impl From<HalfUnitAnswer> for FrostHalfUnitAnswer {
+    ghost from_gives = { λ a r. r ≡ half_unit_out a.outcome a.word };
+
+    fn from(a: HalfUnitAnswer) -> FrostHalfUnitAnswer {
+        FrostHalfUnitAnswer {
+            word: a.word.into(),
+            refusal: words::number_of(a.outcome),
+        }
     }
 }
 
-fn plain_answer(a: PlainAnswer) -> FrostPlainAnswer
-    ensures { result ≡ plain_out a.outcome a.word }
-{
-    let o = a.outcome;
-    plain_out(o, a.word)
-}
+impl From<CutAnswer<HalfUnit>> for FrostHalfUnitAnswer {
+    ghost from_gives = { λ a r. r ≡ half_unit_out a.outcome a.word };
 
-fn half_unit_answer(a: HalfUnitAnswer) -> FrostHalfUnitAnswer
-    ensures { result ≡ half_unit_out a.outcome a.word }
-{
-    let o = a.outcome;
-    half_unit_out(o, a.word)
-}
-
-fn round_bit_answer(a: RoundBitAnswer) -> FrostRoundBitAnswer
-    ensures { result ≡ round_bit_out a.outcome a.word }
-{
-    let o = a.outcome;
-    round_bit_out(o, a.word)
-}
-
-fn sum_out(o: Outcome, w: RoundBitWord, s: RunningSum) -> FrostSumAnswer
-    ensures { result ≡ sum_out o w s }
-{
-    let kept = flat_round_bit(s.kept);
-    let word = flat_round_bit(w);
-    let sum = FrostRunningSum {
-        kept: kept,
-        depth: s.depth,
-    };
-    FrostSumAnswer {
-        sum: sum,
-        word: word,
-        refusal: words::number_of(o),
+    fn from(a: CutAnswer<HalfUnit>) -> FrostHalfUnitAnswer {
+        FrostHalfUnitAnswer {
+            word: a.word.into(),
+            refusal: words::number_of(a.outcome),
+        }
     }
 }
 
-fn text_out(a: TextAnswer) -> FrostTextAnswer
-    ensures { result ≡ text_out a }
-{
-    let word = flat_round_bit(a.word);
-    let o = a.outcome;
-    FrostTextAnswer {
-        word: word,
-        refusal: words::number_of(o),
-        place: a.place,
+impl From<RoundBitAnswer> for FrostRoundBitAnswer {
+    ghost from_gives = { λ a r. r ≡ round_bit_out a.outcome a.word };
+
+    fn from(a: RoundBitAnswer) -> FrostRoundBitAnswer {
+        FrostRoundBitAnswer {
+            word: a.word.into(),
+            refusal: words::number_of(a.outcome),
+        }
     }
 }
 
-fn reading_out(a: ReadingAnswer) -> FrostReadingAnswer
-    ensures { result ≡ reading_out a }
-{
-    let o = a.outcome;
-    let n = a.reading;
-    FrostReadingAnswer {
-        reading: FrostReading {
+impl From<CutAnswer<RoundBit>> for FrostRoundBitAnswer {
+    ghost from_gives = { λ a r. r ≡ round_bit_out a.outcome a.word };
+
+    fn from(a: CutAnswer<RoundBit>) -> FrostRoundBitAnswer {
+        FrostRoundBitAnswer {
+            word: a.word.into(),
+            refusal: words::number_of(a.outcome),
+        }
+    }
+}
+
+impl From<SumAnswer> for FrostSumAnswer {
+    ghost from_gives = { λ a r. r ≡ sum_out a.outcome blank a.sum };
+
+    fn from(a: SumAnswer) -> FrostSumAnswer {
+        FrostSumAnswer {
+            sum: a.sum.into(),
+            word: RoundBitWord::blank().into(),
+            refusal: words::number_of(a.outcome),
+        }
+    }
+}
+
+impl From<HandedAnswer> for FrostSumAnswer {
+    ghost from_gives = { λ a r. r ≡ sum_out a.outcome a.word a.sum };
+
+    fn from(a: HandedAnswer) -> FrostSumAnswer {
+        FrostSumAnswer {
+            sum: a.sum.into(),
+            word: a.word.into(),
+            refusal: words::number_of(a.outcome),
+        }
+    }
+}
+
+impl From<TextAnswer> for FrostTextAnswer {
+    ghost from_gives = { λ a r. r ≡ text_out a };
+
+    fn from(a: TextAnswer) -> FrostTextAnswer {
+        FrostTextAnswer {
+            word: a.word.into(),
+            refusal: words::number_of(a.outcome),
+            place: a.place,
+        }
+    }
+}
+
+impl From<Reading> for FrostReading {
+    ghost from_gives = { λ n r. r ≡ flat_reading n };
+
+    fn from(n: Reading) -> FrostReading {
+        FrostReading {
             lowest: n.lowest,
             highest: n.highest,
             first: n.first,
-        },
-        refusal: words::number_of(o),
+        }
     }
 }
 
-fn block_sum_out(a: BlockSumAnswer) -> FrostBlockSumAnswer
-    ensures { result ≡ block_sum_out a }
-{
-    let word = flat_round_bit(a.word);
-    let o = a.outcome;
-    FrostBlockSumAnswer {
-        word: word,
-        index: a.index,
-        refusal: words::number_of(o),
+impl From<ReadingAnswer> for FrostReadingAnswer {
+    ghost from_gives = { λ a r. r ≡ reading_out a };
+
+    fn from(a: ReadingAnswer) -> FrostReadingAnswer {
+        FrostReadingAnswer {
+            reading: a.reading.into(),
+            refusal: words::number_of(a.outcome),
+        }
     }
 }
 
-fn head_out(a: ReadAnswer) -> FrostFileHead
-    ensures { result ≡ head_out a }
-{
-    let o = a.outcome;
-    let h = a.head;
-    FrostFileHead {
-        refusal: words::number_of(o),
-        kind: h.kind,
-        width: h.format.width,
-        unit: h.format.unit,
-        count: h.count,
+impl From<BlockSumAnswer> for FrostBlockSumAnswer {
+    ghost from_gives = { λ a r. r ≡ block_sum_out a };
+
+    fn from(a: BlockSumAnswer) -> FrostBlockSumAnswer {
+        FrostBlockSumAnswer {
+            word: a.word.into(),
+            index: a.index,
+            refusal: words::number_of(a.outcome),
+        }
     }
 }
 
-fn written_out(a: WriteAnswer) -> FrostWritten
-    ensures { result ≡ written_out a }
-{
-    let o = a.outcome;
-    FrostWritten {
-        bytes: a.count as u64,
-        refusal: words::number_of(o),
+impl From<ReadAnswer> for FrostFileHead {
+    ghost from_gives = { λ a r. r ≡ head_out a };
+
+    fn from(a: ReadAnswer) -> FrostFileHead {
+        FrostFileHead {
+            refusal: words::number_of(a.outcome),
+            kind: a.head.kind,
+            width: a.head.format.width,
+            unit: a.head.format.unit,
+            count: a.head.count,
+        }
+    }
+}
+
+impl From<WriteAnswer> for FrostWritten {
+    ghost from_gives = { λ a r. r ≡ written_out a };
+
+    fn from(a: WriteAnswer) -> FrostWritten {
+        FrostWritten {
+            bytes: a.count as u64,
+            refusal: words::number_of(a.outcome),
+        }
     }
 }
 
@@ -433,46 +449,42 @@ fn written_out(a: WriteAnswer) -> FrostWritten
 pub extern "C" fn frost_round_bit_sign_change(w: FrostRoundBit) -> FrostRoundBitAnswer
     ensures { result ≡ round_bit_out (sign_change_of (round_bit_in w)).outcome (sign_change_of (round_bit_in w)).word }
 {
-    round_bit_answer(round_bit::sign_change(round_bit_in(w)))
+    round_bit::sign_change(w.into()).into()
 }
 
 #[unsafe(no_mangle)]
 pub extern "C" fn frost_round_bit_cut(w: FrostRoundBit, depth: u64) -> FrostRoundBitAnswer
     ensures { result ≡ round_bit_out (cut_of (round_bit_in w) depth).outcome (cut_of (round_bit_in w) depth).word }
 {
-    let a = round_bit::cut(round_bit_in(w), depth);
-    let o = a.outcome;
-    round_bit_out(o, a.word)
+    round_bit::cut(w.into(), depth).into()
 }
 
 #[unsafe(no_mangle)]
 pub extern "C" fn frost_round_bit_even_cut(w: FrostRoundBit, depth: u64) -> FrostRoundBitAnswer
     ensures { result ≡ round_bit_out (even_cut_of (round_bit_in w) depth).outcome (even_cut_of (round_bit_in w) depth).word }
 {
-    let a = round_bit::even_cut(round_bit_in(w), depth);
-    let o = a.outcome;
-    round_bit_out(o, a.word)
+    round_bit::even_cut(w.into(), depth).into()
 }
 
 #[unsafe(no_mangle)]
 pub extern "C" fn frost_round_bit_rest(w: FrostRoundBit, depth: u64) -> FrostRoundBitAnswer
     ensures { result ≡ round_bit_out (rest_of (round_bit_in w) depth).outcome (rest_of (round_bit_in w) depth).word }
 {
-    round_bit_answer(round_bit::rest(round_bit_in(w), depth))
+    round_bit::rest(w.into(), depth).into()
 }
 
 #[unsafe(no_mangle)]
 pub extern "C" fn frost_round_bit_widen(w: FrostRoundBit, depth: u64) -> FrostRoundBitAnswer
     ensures { result ≡ round_bit_out (widen_of (round_bit_in w) depth).outcome (widen_of (round_bit_in w) depth).word }
 {
-    round_bit_answer(round_bit::widen(round_bit_in(w), depth))
+    round_bit::widen(w.into(), depth).into()
 }
 
 #[unsafe(no_mangle)]
 pub extern "C" fn frost_round_bit_sum(x: FrostRoundBit, y: FrostRoundBit) -> FrostRoundBitAnswer
     ensures { result ≡ round_bit_out (sum_of (round_bit_in x) (round_bit_in y)).outcome (sum_of (round_bit_in x) (round_bit_in y)).word }
 {
-    round_bit_answer(round_bit::sum(round_bit_in(x), round_bit_in(y)))
+    round_bit::sum(x.into(), y.into()).into()
 }
 
 #[unsafe(no_mangle)]
@@ -482,28 +494,28 @@ pub extern "C" fn frost_round_bit_difference(
 ) -> FrostRoundBitAnswer
     ensures { result ≡ round_bit_out (difference_of (round_bit_in x) (round_bit_in y)).outcome (difference_of (round_bit_in x) (round_bit_in y)).word }
 {
-    round_bit_answer(round_bit::difference(round_bit_in(x), round_bit_in(y)))
+    round_bit::difference(x.into(), y.into()).into()
 }
 
 #[unsafe(no_mangle)]
 pub extern "C" fn frost_round_bit_product(x: FrostRoundBit, y: FrostRoundBit) -> FrostRoundBitAnswer
     ensures { result ≡ round_bit_out (product_of (round_bit_in x) (round_bit_in y)).outcome (product_of (round_bit_in x) (round_bit_in y)).word }
 {
-    round_bit_answer(round_bit::product(round_bit_in(x), round_bit_in(y)))
+    round_bit::product(x.into(), y.into()).into()
 }
 
 #[unsafe(no_mangle)]
 pub extern "C" fn frost_round_bit_to_plain(w: FrostRoundBit) -> FrostPlainAnswer
     ensures { result ≡ plain_out (to_plain_of (round_bit_in w)).outcome (to_plain_of (round_bit_in w)).word }
 {
-    plain_answer(round_bit::to_plain(round_bit_in(w)))
+    round_bit::to_plain(w.into()).into()
 }
 
 #[unsafe(no_mangle)]
 pub extern "C" fn frost_round_bit_from_plain(w: FrostPlain) -> FrostRoundBitAnswer
     ensures { result ≡ round_bit_out (from_plain_of (plain_in w)).outcome (from_plain_of (plain_in w)).word }
 {
-    round_bit_answer(round_bit::from_plain(plain_in(w)))
+    round_bit::from_plain(w.into()).into()
 }
 
 // Half-unit words.
@@ -512,58 +524,56 @@ pub extern "C" fn frost_round_bit_from_plain(w: FrostPlain) -> FrostRoundBitAnsw
 pub extern "C" fn frost_half_unit_sign_change(w: FrostHalfUnit) -> FrostHalfUnitAnswer
     ensures { result ≡ half_unit_out (half_sign_change_of (half_unit_in w)).outcome (half_sign_change_of (half_unit_in w)).word }
 {
-    half_unit_answer(half_unit::sign_change(half_unit_in(w)))
+    half_unit::sign_change(w.into()).into()
 }
 
 #[unsafe(no_mangle)]
 pub extern "C" fn frost_half_unit_cut(w: FrostHalfUnit, depth: u64) -> FrostHalfUnitAnswer
     ensures { result ≡ half_unit_out (half_cut_of (half_unit_in w) depth).outcome (half_cut_of (half_unit_in w) depth).word }
 {
-    let a = half_unit::cut(half_unit_in(w), depth);
-    let o = a.outcome;
-    half_unit_out(o, a.word)
+    half_unit::cut(w.into(), depth).into()
 }
 
 #[unsafe(no_mangle)]
 pub extern "C" fn frost_half_unit_from_plain_up(w: FrostPlain, depth: u64) -> FrostHalfUnitAnswer
     ensures { result ≡ half_unit_out (from_plain_up_of (plain_in w) depth).outcome (from_plain_up_of (plain_in w) depth).word }
 {
-    half_unit_answer(half_unit::from_plain_up(plain_in(w), depth))
+    half_unit::from_plain_up(w.into(), depth).into()
 }
 
 #[unsafe(no_mangle)]
 pub extern "C" fn frost_half_unit_from_plain_even(w: FrostPlain, depth: u64) -> FrostHalfUnitAnswer
     ensures { result ≡ half_unit_out (from_plain_even_of (plain_in w) depth).outcome (from_plain_even_of (plain_in w) depth).word }
 {
-    half_unit_answer(half_unit::from_plain_even(plain_in(w), depth))
+    half_unit::from_plain_even(w.into(), depth).into()
 }
 
 #[unsafe(no_mangle)]
 pub extern "C" fn frost_half_unit_to_plain(w: FrostHalfUnit) -> FrostPlainAnswer
     ensures { result ≡ plain_out (half_to_plain_of (half_unit_in w)).outcome (half_to_plain_of (half_unit_in w)).word }
 {
-    plain_answer(half_unit::to_plain(half_unit_in(w)))
+    half_unit::to_plain(w.into()).into()
 }
 
 #[unsafe(no_mangle)]
 pub extern "C" fn frost_half_unit_to_round_bit(w: FrostHalfUnit) -> FrostRoundBitAnswer
     ensures { result ≡ round_bit_out (to_round_bit_of (half_unit_in w)).outcome (to_round_bit_of (half_unit_in w)).word }
 {
-    round_bit_answer(half_unit::to_round_bit(half_unit_in(w)))
+    half_unit::to_round_bit(w.into()).into()
 }
 
 #[unsafe(no_mangle)]
 pub extern "C" fn frost_half_unit_from_round_bit(w: FrostRoundBit) -> FrostHalfUnitAnswer
     ensures { result ≡ half_unit_out (from_round_bit_of (round_bit_in w)).outcome (from_round_bit_of (round_bit_in w)).word }
 {
-    half_unit_answer(half_unit::from_round_bit(round_bit_in(w)))
+    half_unit::from_round_bit(w.into()).into()
 }
 
 #[unsafe(no_mangle)]
 pub extern "C" fn frost_half_unit_sum_up(x: FrostHalfUnit, y: FrostHalfUnit) -> FrostHalfUnitAnswer
     ensures { result ≡ half_unit_out (sum_up_of (half_unit_in x) (half_unit_in y)).outcome (sum_up_of (half_unit_in x) (half_unit_in y)).word }
 {
-    half_unit_answer(half_unit::sum_up(half_unit_in(x), half_unit_in(y)))
+    half_unit::sum_up(x.into(), y.into()).into()
 }
 
 #[unsafe(no_mangle)]
@@ -573,14 +583,14 @@ pub extern "C" fn frost_half_unit_sum_even(
 ) -> FrostHalfUnitAnswer
     ensures { result ≡ half_unit_out (sum_even_of (half_unit_in x) (half_unit_in y)).outcome (sum_even_of (half_unit_in x) (half_unit_in y)).word }
 {
-    half_unit_answer(half_unit::sum_even(half_unit_in(x), half_unit_in(y)))
+    half_unit::sum_even(x.into(), y.into()).into()
 }
 
 #[unsafe(no_mangle)]
 pub extern "C" fn frost_half_unit_product(x: FrostHalfUnit, y: FrostHalfUnit) -> FrostHalfUnitAnswer
     ensures { result ≡ half_unit_out (half_product_of (half_unit_in x) (half_unit_in y)).outcome (half_product_of (half_unit_in x) (half_unit_in y)).word }
 {
-    half_unit_answer(half_unit::product(half_unit_in(x), half_unit_in(y)))
+    half_unit::product(x.into(), y.into()).into()
 }
 
 // Samples of a digitiser, by their bits.
@@ -589,7 +599,7 @@ pub extern "C" fn frost_half_unit_product(x: FrostHalfUnit, y: FrostHalfUnit) ->
 pub extern "C" fn frost_plain_from_binary64(bits: u64, width: u32, unit: i32) -> FrostPlainAnswer
     ensures { result ≡ plain_out (import_plain_of bits (format width unit)).outcome (import_plain_of bits (format width unit)).word }
 {
-    plain_answer(binary64::to_plain(bits, width, unit))
+    binary64::to_plain(bits, width, unit).into()
 }
 
 #[unsafe(no_mangle)]
@@ -600,7 +610,7 @@ pub extern "C" fn frost_round_bit_from_binary64(
 ) -> FrostRoundBitAnswer
     ensures { result ≡ round_bit_out (import_round_bit_of bits (format width unit)).outcome (import_round_bit_of bits (format width unit)).word }
 {
-    round_bit_answer(binary64::to_round_bit(bits, width, unit))
+    binary64::to_round_bit(bits, width, unit).into()
 }
 
 #[unsafe(no_mangle)]
@@ -611,7 +621,7 @@ pub extern "C" fn frost_half_unit_from_binary64(
 ) -> FrostHalfUnitAnswer
     ensures { result ≡ half_unit_out (import_half_unit_of bits (format width unit)).outcome (import_half_unit_of bits (format width unit)).word }
 {
-    half_unit_answer(binary64::to_half_unit(bits, width, unit))
+    binary64::to_half_unit(bits, width, unit).into()
 }
 
 // The filter bank. Only the channel's own row is read; of a channel that the bank has not, which is refused, any row.
@@ -625,10 +635,7 @@ pub extern "C" fn frost_bank_output(
     ensures { result ≡ round_bit_out (output_of (bank_in bank) (window_in window) channel).outcome (output_of (bank_in bank) (window_in window) channel).word }
 {
     let taps = row_in(bank, channel % filter_bank::CHANNELS);
-    let samples = window_in(window);
-    let a = filter_bank::channel_output(taps, samples, channel);
-    let o = a.outcome;
-    round_bit_out(o, a.word)
+    filter_bank::channel_output(taps, eight_in(window.samples), channel).into()
 }
 
 // The running sum.
@@ -637,39 +644,28 @@ pub extern "C" fn frost_bank_output(
 pub extern "C" fn frost_running_sum_open(width: u32, unit: i32, depth: u64) -> FrostSumAnswer
     ensures { result ≡ sum_out (open_of width unit depth).outcome blank (open_of width unit depth).sum }
 {
-    let a = running_sum::open(width, unit, depth);
-    let o = a.outcome;
-    sum_out(o, BLANK, a.sum)
+    running_sum::open(width, unit, depth).into()
 }
 
 #[unsafe(no_mangle)]
 pub extern "C" fn frost_running_sum_put(s: FrostRunningSum, w: FrostRoundBit) -> FrostSumAnswer
     ensures { result ≡ sum_out (step_of (sum_in s) (put (round_bit_in w))).outcome blank (step_of (sum_in s) (put (round_bit_in w))).sum }
 {
-    let sum = sum_in(s);
-    let a = sum.put(round_bit_in(w));
-    let o = a.outcome;
-    sum_out(o, BLANK, a.sum)
+    RunningSum::from(s).put(w.into()).into()
 }
 
 #[unsafe(no_mangle)]
 pub extern "C" fn frost_running_sum_hand_out(s: FrostRunningSum) -> FrostSumAnswer
     ensures { result ≡ sum_out (step_of (sum_in s) hand_out).outcome (step_of (sum_in s) hand_out).word (step_of (sum_in s) hand_out).sum }
 {
-    let sum = sum_in(s);
-    let a = sum.hand_out();
-    let o = a.outcome;
-    sum_out(o, a.word, a.sum)
+    RunningSum::from(s).hand_out().into()
 }
 
 #[unsafe(no_mangle)]
 pub extern "C" fn frost_running_sum_empty(s: FrostRunningSum) -> FrostSumAnswer
     ensures { result ≡ sum_out (step_of (sum_in s) empty).outcome (step_of (sum_in s) empty).word (step_of (sum_in s) empty).sum }
 {
-    let sum = sum_in(s);
-    let a = sum.empty();
-    let o = a.outcome;
-    sum_out(o, a.word, a.sum)
+    RunningSum::from(s).empty().into()
 }
 
 // Which library this is: 10000 * major + 100 * minor + patch.
@@ -687,14 +683,14 @@ pub extern "C" fn frost_digit_text_write(w: FrostRoundBit, text: &mut [u8]) -> F
     ensures value { result ≡ written_out (text_write_of (round_bit_in w) (length text.old)) }
     ensures text_new { text.new ≡ buffer_of (round_bit_in w) text.old }
 {
-    written_out(digit_text::write(round_bit_in(w), text))
+    digit_text::write(w.into(), text).into()
 }
 
 #[unsafe(no_mangle)]
 pub extern "C" fn frost_digit_text_read(text: &[u8], unit: i32) -> FrostTextAnswer
     ensures { result ≡ text_out (text_read_of text.now unit) }
 {
-    text_out(digit_text::read(text, unit))
+    digit_text::read(text, unit).into()
 }
 
 #[unsafe(no_mangle)]
@@ -707,7 +703,7 @@ pub extern "C" fn frost_file_read(
     ensures numbers_new { numbers.new ≡ numbers_after file.now numbers.old rounds.old }
     ensures rounds_new { rounds.new ≡ rounds_after file.now numbers.old rounds.old }
 {
-    head_out(block_file::read(file, numbers, rounds))
+    block_file::read(file, numbers, rounds).into()
 }
 
 #[unsafe(no_mangle)]
@@ -722,11 +718,7 @@ pub extern "C" fn frost_file_write(
     ensures value { result ≡ written_out (file_write_of (block kind (format width unit) numbers.now rounds.now) (length file.old)) }
     ensures file_new { file.new ≡ file_after (block kind (format width unit) numbers.now rounds.now) file.old }
 {
-    let f = Format {
-        width: width,
-        unit: unit,
-    };
-    written_out(block_file::write(kind, f, numbers, rounds, file))
+    block_file::write(kind, Format { width, unit }, numbers, rounds, file).into()
 }
 
 #[unsafe(no_mangle)]
@@ -740,7 +732,7 @@ pub extern "C" fn frost_reading_of_run(
 ) -> FrostReadingAnswer
     ensures { result ≡ reading_out (reading_of_run (block kind (format width (pos 0)) numbers.now rounds.now) first length) }
 {
-    reading_out(reading::of_run(kind, width, numbers, rounds, first, length))
+    reading::of_run(kind, width, numbers, rounds, first, length).into()
 }
 
 #[unsafe(no_mangle)]
@@ -752,7 +744,7 @@ pub extern "C" fn frost_block_sum(
 ) -> FrostBlockSumAnswer
     ensures { result ≡ block_sum_out (block_sum_of (format width unit) numbers.now rounds.now) }
 {
-    block_sum_out(block_sum::block_sum(width, unit, numbers, rounds))
+    block_sum::block_sum(width, unit, numbers, rounds).into()
 }
 
 #[unsafe(no_mangle)]
@@ -760,5 +752,5 @@ pub extern "C" fn frost_listing_text(file: &[u8], text: &mut [u8]) -> FrostWritt
     ensures value { result ≡ written_out (list_of file.now (length text.old)) }
     ensures text_new { text.new ≡ text_after file.now text.old }
 {
-    written_out(listing_text::list(file, text))
+    listing_text::list(file, text).into()
 }

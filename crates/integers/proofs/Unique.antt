@@ -9,7 +9,6 @@ use Rattle.integers.proofs.low_byte.Reads as low_byte
 use Rattle.integers.proofs.fits_width.Reads as fits_width
 use Rattle.integers.proofs.absolute.Reads as absolute
 use Rattle.integers.proofs.any_below.Reads as any_below
-use Rattle.integers.proofs.wide.Reads as wide
 
 floor_by_one : OneResult (floor-by.Post tt)
 floor_by_one a x y e f p q = p ∙ sym q
@@ -34,6 +33,3 @@ absolute_one a x y e f p q = p ∙ sym q
 
 any_below_one : OneResult (any_below.Post tt)
 any_below_one a x y e f p q = p ∙ sym q
-
-wide_one : OneResult (wide.Post tt)
-wide_one a x y e f p q = p ∙ sym q

@@ -49,7 +49,7 @@ pub fn low_digits(x: i64, d: u64) -> i64
 pub fn any_below(x: i64, k: u64) -> u8
     ensures { result ≡ any_below x k }
 {
-    if low_digits(x, k) == 0 { 0 } else { 1 }
+    u8::from(low_digits(x, k) != 0)
 }
 
 // The low 8 digits of x, as a byte.
@@ -59,17 +59,11 @@ pub fn low_byte(x: i64) -> u8
     (x & 255) as u8
 }
 
-fn less_one(n: u32) -> u64
-    ensures { result ≡ n - 1 }
-{
-    if n == 0 { 0 } else { (n - 1) as u64 }
-}
-
 // Does x fit n digits? The digits from n - 1 up are then all the sign.
 pub fn fits_width(x: i64, n: u32) -> bool
     ensures { result ≡ fits_width x n }
 {
-    let y = floor_by(x, less_one(n));
+    let y = floor_by(x, u64::from(n.saturating_sub(1)));
     (y == 0) | (y == -1)
 }
 
@@ -77,12 +71,5 @@ pub fn fits_width(x: i64, n: u32) -> bool
 pub fn absolute(x: i64) -> u64
     ensures { result ≡ nat_abs x }
 {
-    if x < 0 { ((!x) as u64) + 1 } else { x as u64 }
-}
-
-// x in 64 bits.
-pub fn wide(x: i32) -> i64
-    ensures { result ≡ x }
-{
-    x as i64
+    x.unsigned_abs()
 }

@@ -1,30 +1,30 @@
-use mathlib.Core.Path.{◌≡◌, sym, ap, ◌∙◌}
+use mathlib.Core.Path.{◌≡◌, refl, sym, ap, ◌∙◌}
+use mathlib.Core.Bool.{Bool, true, false, not}
 use Prim.Native.Nat.{ℕ, ◌≤◌}
+use lib.Dec.{eqb}
+use lib.IntN.{ℤ}
 use native.Mathlib.Omega.{arith}
+use borrow.Author.Tests.{eqb-true, eqb-false}
 use mir.Syntax.{w64}
-use mir.Val.{of_z}
+use mir.Val.{SFits, of_z, bool_byte}
 use mir.Facts.{to_z-of_z}
 use Rattle.integers.specs.Numbers.{any_below, low_digits}
 use Rattle.integers.proofs.LowDigits.{any_le, low_none, none_low}
 use Rattle.integers.proofs.Machine.{by_bits}
 use Rattle.integers.proofs.any_below.Goals as goal
-use Rattle.integers.proofs.any_below.Lts as lts
-use Rattle.integers.proofs.any_below.Reads as reads
-use Rattle.integers.proofs.any_below.Tie as tie
 
-low-is : (c : lts.After-low_digits tie.the-claims reads.Pre reads.Post) → c.low_digits.result ≡ low_digits c.args.x c.args.k
-low-is c = c.low_digits.ensures ∙ rw (to_z-of_z c.ranges.x)
+one : (n : ℕ) → n ≤ 1 → (n ≡ 0 → ⊥) → n ≡ 1
+one n h k = omega arith
 
-pub returns-then-low_digits-eq0 : goal.returns-then-low_digits-eq0
-returns-then-low_digits-eq0 c =
-    let b = c.before in
-    sym (none_low b.args.x b.args.k (sym (low-is b) ∙ by_bits 0 (record { sfits = b.low_digits.type_inv }) c.if-low_digits-eq0.true))
-
-pub returns-else-low_digits-eq0 : goal.returns-else-low_digits-eq0
-returns-else-low_digits-eq0 c =
-    let x = c.args.x in
-    let k = c.args.k in
-    sym (one (any_below x k) (any_le x k) (λ e. c.if-low_digits-eq0.false (ap (of_z w64) (low-is c.before ∙ low_none x k e))))
+-- of the machine's low digits l
+told : (x : ℤ) (k : ℕ) (l : ℤ) → SFits w64 l → l ≡ low_digits x k → bool_byte (not (eqb (of_z w64 l) 0)) ≡ any_below x k
+told x k l f e = go (eqb (of_z w64 l) 0) refl
   where
-    one : (n : ℕ) → n ≤ 1 → (n ≡ 0 → ⊥) → n ≡ 1
-    one n h k = omega arith
+    go : (b : Bool) → eqb (of_z w64 l) 0 ≡ b → bool_byte (not b) ≡ any_below x k
+    go true t = sym (none_low x k (sym e ∙ by_bits 0 f (eqb-true (of_z w64 l) 0 t)))
+    go false t = sym (one (any_below x k) (any_le x k) (λ n. eqb-false (of_z w64 l) 0 t (ap (of_z w64) (e ∙ low_none x k n))))
+
+pub returns : goal.returns
+returns c =
+    let l = c.low_digits in
+    c.from.ensures ∙ told c.args.x c.args.k l.result (record { sfits = l.type_inv }) (l.ensures ∙ rw (to_z-of_z c.ranges.x))
