@@ -10,6 +10,7 @@
 
 ghost use Rattle.std.specs.Prelude.{◌^◌, ◌<◌, ◌≤◌};
 
+use round_bit::{CutAnswer, EvenCutAnswer};
 use std::{fmt, io};
 use words::{
     Format, HalfUnit, HalfUnitAnswer, HalfUnitWord, Outcome, Plain, PlainWord, RoundBit,
@@ -77,6 +78,24 @@ impl From<HalfUnitAnswer> for Answered {
     }
 }
 
+impl From<CutAnswer> for Answered {
+    fn from(a: CutAnswer) -> Answered {
+        Answered {
+            outcome: a.outcome,
+            word: a.word.into(),
+        }
+    }
+}
+
+impl From<EvenCutAnswer> for Answered {
+    fn from(a: EvenCutAnswer) -> Answered {
+        Answered {
+            outcome: a.outcome,
+            word: a.word.into(),
+        }
+    }
+}
+
 impl fmt::Display for Answered {
     fn fmt<W: fmt::Write>(&self, f: &mut fmt::Formatter<W>) -> fmt::Result {
         write!(f, "{} {}", words::number_of(self.outcome), self.word)
@@ -121,24 +140,6 @@ fn sums(rt: &impl Print) -> io::Result<()> {
     print_line(rt, "P5", p5)
 }
 
-fn print_cut(rt: &impl Print, name: &str, w: RoundBitWord, d: u64) -> io::Result<()> {
-    let a = round_bit::cut(w, d);
-    let line = Answered {
-        outcome: a.outcome,
-        word: a.word.into(),
-    };
-    print_line(rt, name, line)
-}
-
-fn print_even_cut(rt: &impl Print, name: &str, w: RoundBitWord, d: u64) -> io::Result<()> {
-    let a = round_bit::even_cut(w, d);
-    let line = Answered {
-        outcome: a.outcome,
-        word: a.word.into(),
-    };
-    print_line(rt, name, line)
-}
-
 fn print_digit_text(rt: &impl Print, name: &str, w: RoundBitWord) -> io::Result<()> {
     let mut text = [b'?'; 12];
     let a = digit_text::write(w, &mut text);
@@ -148,11 +149,11 @@ fn print_digit_text(rt: &impl Print, name: &str, w: RoundBitWord) -> io::Result<
 }
 
 fn cuts(rt: &impl Print) -> io::Result<()> {
-    print_cut(rt, "P6 cut", round_bit(11, -718, 0), 2)?;
+    print_line(rt, "P6 cut", round_bit::cut(round_bit(11, -718, 0), 2))?;
     print_line(rt, "P6 rest", round_bit::rest(round_bit(11, -718, 0), 2))?;
     print_digit_text(rt, "P6 text", round_bit(11, -718, 0))?;
-    print_cut(rt, "P7 by 1", round_bit(3, 0, 0), 1)?;
-    print_cut(rt, "P7 by 2", round_bit(3, 0, 0), 2)?;
+    print_line(rt, "P7 by 1", round_bit::cut(round_bit(3, 0, 0), 1))?;
+    print_line(rt, "P7 by 2", round_bit::cut(round_bit(3, 0, 0), 2))?;
     print_line(rt, "P8", round_bit::widen(round_bit(4, 5, 1), 2))
 }
 
@@ -173,8 +174,8 @@ fn half_units(rt: &impl Print) -> io::Result<()> {
     print_line(rt, "P11 up", half_unit::sum_up(five, half_unit(5, 3)))?;
     print_line(rt, "P11 even", half_unit::sum_even(five, half_unit(5, 3)))?;
     print_line(rt, "P12", half_unit::product(five, half_unit(5, 2)))?;
-    print_even_cut(rt, "P13", round_bit(5, 6, 0), 2)?;
-    print_even_cut(rt, "P13", round_bit(5, 2, 0), 2)
+    print_line(rt, "P13", round_bit::even_cut(round_bit(5, 6, 0), 2))?;
+    print_line(rt, "P13", round_bit::even_cut(round_bit(5, 2, 0), 2))
 }
 
 // P14: an opening, and puts of (a, r), each with a hand-out after it.
@@ -277,7 +278,7 @@ fn print_reading(rt: &impl Print, name: &str, text: &[u8]) -> io::Result<()> {
 
 fn requested(rt: &impl Print) -> io::Result<()> {
     for a in [1, 0, 2] {
-        print_even_cut(rt, "Ask 2", round_bit(5, a, 1), 1)?;
+        print_line(rt, "Ask 2", round_bit::even_cut(round_bit(5, a, 1), 1))?;
     }
     for text in ["+ +", "++-", "+0+", "+0-0-+?", "+-"] {
         print_reading(rt, "Ask 3", text.as_bytes())?;
