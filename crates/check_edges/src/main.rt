@@ -8,92 +8,65 @@
 use std::io;
 use words::{Format, HalfUnit, HalfUnitWord, Plain, PlainWord, RoundBit, RoundBitWord};
 
-const WIDTHS: [u32; 6] = [0, 1, 2, 63, 64, 4294967295];
+const WIDTHS: [u32; 6] = [0, 1, 2, 63, 64, u32::MAX];
 
-const UNITS: [i32; 5] = [-2147483648, -128, -127, 127, 128];
+const UNITS: [i32; 5] = [i32::MIN, -128, -127, 127, 128];
+
+// The least and the greatest number of 63 digits.
+const LEAST: i64 = i64::MIN / 2;
+
+const MOST: i64 = i64::MAX / 2;
 
 const NUMBERS: [i64; 12] = [
-    -9223372036854775808,
-    -4611686018427387905,
-    -4611686018427387904,
+    i64::MIN,
+    LEAST - 1,
+    LEAST,
     -3,
     -2,
     -1,
     0,
     1,
     2,
-    4611686018427387903,
-    4611686018427387904,
-    9223372036854775807,
+    MOST,
+    MOST + 1,
+    i64::MAX,
 ];
 
-fn print_signed(rt: &impl Print, x: i64) -> io::Result<()> {
-    if x < 0 {
-        rt.write_all(b"-")?;
-    }
-    rt.print(integers::absolute(x))
-}
+const ROUND_BITS: [u8; 4] = [0, 1, 2, 255];
 
-fn print_outcome(rt: &impl Print, n: u32) -> io::Result<()> {
-    rt.write_all(b" ")?;
-    rt.print(n)
-}
-
-fn plain(x: i64, f: Format) -> u32 {
-    words::number_of(words::plain_check(PlainWord {
+fn line(rt: &impl Print, format: Format, x: i64) -> io::Result<()> {
+    let plain = words::plain_check(PlainWord {
         number: Plain(x),
-        format: f,
-    }))
-}
-
-fn half_unit(x: i64, f: Format) -> u32 {
-    words::number_of(words::half_unit_check(HalfUnitWord {
+        format,
+    });
+    let half_unit = words::half_unit_check(HalfUnitWord {
         number: HalfUnit(x),
-        format: f,
-    }))
+        format,
+    });
+    print!(rt; "{} {} {x}", format.width, format.unit)?;
+    print!(rt;
+        " {} {}",
+        words::number_of(plain),
+        words::number_of(half_unit)
+    )?;
+    for r in ROUND_BITS {
+        let round_bit = words::round_bit_check(RoundBitWord {
+            number: RoundBit(x, r),
+            format,
+        });
+        print!(rt; " {}", words::number_of(round_bit))?;
+    }
+    println!(rt)
 }
 
-fn round_bit(x: i64, r: u8, f: Format) -> u32 {
-    words::number_of(words::round_bit_check(RoundBitWord {
-        number: RoundBit(x, r),
-        format: f,
-    }))
-}
-
-fn line(rt: &impl Print, x: i64, f: Format) -> io::Result<()> {
-    rt.print(f.width)?;
-    rt.write_all(b" ")?;
-    print_signed(rt, integers::wide(f.unit))?;
-    rt.write_all(b" ")?;
-    print_signed(rt, x)?;
-    print_outcome(rt, plain(x, f))?;
-    print_outcome(rt, half_unit(x, f))?;
-    print_outcome(rt, round_bit(x, 0, f))?;
-    print_outcome(rt, round_bit(x, 1, f))?;
-    print_outcome(rt, round_bit(x, 2, f))?;
-    print_outcome(rt, round_bit(x, 255, f))?;
-    rt.write_all(b"\n")
-}
-
-// The i-th of the 360 combinations, the number changing fastest and the width slowest.
-fn combination(rt: &impl Print, i: usize) -> io::Result<()> {
-    let width = WIDTHS[i / 60 % 6];
-    let unit = UNITS[i / 12 % 5];
-    line(
-        rt,
-        NUMBERS[i % 12],
-        Format {
-            width: width,
-            unit: unit,
-        },
-    )
-}
-
+// The number changes fastest and the width slowest.
 fn main(rt: HostRuntime) -> io::Result<()> {
-    let mut i = 0;
-    while i < 360 {
-        combination(&rt, i)?;
-        i += 1;
+    for width in WIDTHS {
+        for unit in UNITS {
+            for x in NUMBERS {
+                line(&rt, Format { width, unit }, x)?;
+            }
+        }
     }
     Ok(())
 }

@@ -5,198 +5,86 @@
 // from second/digit_texts.py, which was written from the documents alone.
 #![tactic(auto)]
 
-use digit_text::ReadAnswer;
+ghost use Rattle.std.specs.Prelude.{◌^◌, ◌<◌, ◌≤◌};
+
 use std::io;
-use words::{Format, RoundBit, RoundBitWord, WriteAnswer};
+use words::{Format, RoundBit, RoundBitWord};
 
-const BYTES: [u8; 4] = [b'+', b'0', b'-', b'x'];
+const BYTES: [u8; 4] = *b"+0-x";
 
-fn print_text(rt: &impl Print, text: &[u8]) -> io::Result<()> {
-    rt.write_all(text)
-}
-
-fn print_count(rt: &impl Print, n: u64) -> io::Result<()> {
-    print_text(rt, b" ")?;
-    rt.print(n)
-}
-
-fn print_signed(rt: &impl Print, x: i64) -> io::Result<()> {
-    print_text(rt, b" ")?;
-    if x < 0 {
-        print_text(rt, b"-")?;
-    }
-    rt.print(integers::absolute(x))
-}
-
-fn word(n: u32, a: i64, r: u8) -> RoundBitWord {
-    RoundBitWord {
-        number: RoundBit(a, r),
-        format: Format { width: n, unit: 0 },
-    }
-}
-
-fn print_written(
-    rt: &impl Print,
-    w: RoundBitWord,
-    a: WriteAnswer,
-    buffer: &[u8],
-) -> io::Result<()> {
-    let outcome = a.outcome;
-    print_text(rt, b"write")?;
-    print_count(rt, w.format.width as u64)?;
-    print_signed(rt, w.number.0)?;
-    print_count(rt, w.number.1 as u64)?;
-    print_count(rt, words::number_of(outcome) as u64)?;
-    print_count(rt, a.count as u64)?;
-    print_text(rt, b" ")?;
-    print_text(rt, buffer)?;
-    print_text(rt, b"\n")
-}
-
-fn write_3(rt: &impl Print, w: RoundBitWord) -> io::Result<()> {
-    let mut buffer = [b'?'; 3];
-    let a = digit_text::write(w, &mut buffer);
-    print_written(rt, w, a, &buffer)
-}
-
-fn write_4(rt: &impl Print, w: RoundBitWord) -> io::Result<()> {
-    let mut buffer = [b'?'; 4];
-    let a = digit_text::write(w, &mut buffer);
-    print_written(rt, w, a, &buffer)
-}
-
-fn write_8(rt: &impl Print, w: RoundBitWord) -> io::Result<()> {
-    let mut buffer = [b'?'; 8];
-    let a = digit_text::write(w, &mut buffer);
-    print_written(rt, w, a, &buffer)
-}
-
-fn write_12(rt: &impl Print, w: RoundBitWord) -> io::Result<()> {
-    let mut buffer = [b'?'; 12];
-    let a = digit_text::write(w, &mut buffer);
-    print_written(rt, w, a, &buffer)
-}
-
-// The number with its three round bits, of which the last is none.
-fn write_number(rt: &impl Print, n: u32, a: i64) -> io::Result<()> {
-    write_8(rt, word(n, a, 0))?;
-    write_8(rt, word(n, a, 1))?;
-    write_8(rt, word(n, a, 2))
-}
-
-// -1, -2, and so on.
-fn below(k: u32) -> i64 {
-    -1 - (k as i64)
-}
-
-// The numbers of one width: those below 0 from the lowest up, then the others.
-fn write_width(rt: &impl Print, n: u32, half: u32) -> io::Result<()> {
-    let mut k = half;
-    while 0 < k {
-        k -= 1;
-        write_number(rt, n, below(k))?;
-    }
-    let mut j = 0;
-    while j < half {
-        write_number(rt, n, j as i64)?;
-        j += 1;
-    }
-    Ok(())
+// Writes a word of unit 0 into a buffer of N bytes.
+fn write<const N: usize>(rt: &impl Print, width: u32, x: i64, r: u8) -> io::Result<()>
+    requires { N < 2 ^ 63 }
+{
+    let mut buffer = [b'?'; N];
+    let a = digit_text::write(
+        RoundBitWord {
+            number: RoundBit(x, r),
+            format: Format { width, unit: 0 },
+        },
+        &mut buffer,
+    );
+    print!(rt;
+        "write {width} {x} {r} {} {} ",
+        words::number_of(a.outcome),
+        a.count
+    )?;
+    rt.write_all(&buffer)?;
+    println!(rt)
 }
 
 fn writings(rt: &impl Print) -> io::Result<()> {
-    write_width(rt, 2, 2)?;
-    write_width(rt, 3, 4)?;
-    write_width(rt, 4, 8)?;
-    write_width(rt, 5, 16)?;
-    write_width(rt, 6, 32)?;
-    write_8(rt, word(11, -718, 0))?;
-    write_12(rt, word(11, -718, 0))?;
-    write_3(rt, word(4, 5, 1))?;
-    write_4(rt, word(4, 5, 1))
-}
-
-fn print_read(rt: &impl Print, text: &[u8], a: ReadAnswer) -> io::Result<()> {
-    let outcome = a.outcome;
-    let w = a.word;
-    print_text(rt, b"read ")?;
-    print_text(rt, text)?;
-    print_count(rt, words::number_of(outcome) as u64)?;
-    print_signed(rt, w.number.0)?;
-    print_count(rt, w.number.1 as u64)?;
-    print_count(rt, w.format.width as u64)?;
-    print_signed(rt, integers::wide(w.format.unit))?;
-    print_count(rt, a.place as u64)?;
-    print_text(rt, b"\n")
+    for width in 2..=6 {
+        let half = 1i64 << (width - 1);
+        for x in -half..half {
+            // The last is no round bit.
+            for r in 0..=2 {
+                write::<8>(rt, width, x, r)?;
+            }
+        }
+    }
+    write::<8>(rt, 11, -718, 0)?;
+    write::<12>(rt, 11, -718, 0)?;
+    write::<3>(rt, 4, 5, 1)?;
+    write::<4>(rt, 4, 5, 1)
 }
 
 fn read(rt: &impl Print, text: &[u8], unit: i32) -> io::Result<()> {
-    print_read(rt, text, digit_text::read(text, unit))
+    let a = digit_text::read(text, unit);
+    rt.write_all(b"read ")?;
+    rt.write_all(text)?;
+    print!(rt; " {} {}", words::number_of(a.outcome), a.word.number.0)?;
+    print!(rt; " {} {}", a.word.number.1, a.word.format.width)?;
+    println!(rt; " {} {}", a.word.format.unit, a.place)
 }
 
-fn read_1(rt: &impl Print, i: usize) -> io::Result<()> {
-    let text = [BYTES[i % 4]];
-    read(rt, &text, 0)
-}
-
-fn read_2(rt: &impl Print, i: usize) -> io::Result<()> {
-    let text = [BYTES[i / 4 % 4], BYTES[i % 4]];
-    read(rt, &text, 0)
-}
-
-fn read_3(rt: &impl Print, i: usize) -> io::Result<()> {
-    let text = [BYTES[i / 16 % 4], BYTES[i / 4 % 4], BYTES[i % 4]];
-    read(rt, &text, 0)
-}
-
-fn read_4(rt: &impl Print, i: usize) -> io::Result<()> {
-    let text = [
-        BYTES[i / 64 % 4],
-        BYTES[i / 16 % 4],
-        BYTES[i / 4 % 4],
-        BYTES[i % 4],
-    ];
-    read(rt, &text, 0)
-}
-
-// The texts of one length, the last byte changing fastest.
-fn read_length(rt: &impl Print, n: usize, count: usize) -> io::Result<()> {
-    let mut i = 0;
-    while i < count {
-        if n == 1 {
-            read_1(rt, i)?;
+// Reads every text of n bytes, the last byte changing fastest.
+fn read_length(rt: &impl Print, n: usize) -> io::Result<()>
+    requires { n ≤ 4 }
+{
+    for i in 0..1usize << (2 * n) {
+        let mut text = [0; 4];
+        let mut rest = i;
+        for byte in text[..n].iter_mut().rev() {
+            *byte = BYTES[rest % 4];
+            rest /= 4;
         }
-        if n == 2 {
-            read_2(rt, i)?;
-        }
-        if n == 3 {
-            read_3(rt, i)?;
-        }
-        if n == 4 {
-            read_4(rt, i)?;
-        }
-        i += 1;
+        read(rt, &text[..n], 0)?;
     }
     Ok(())
 }
 
 fn readings(rt: &impl Print) -> io::Result<()> {
-    read(rt, b"", 0)?;
-    read_length(rt, 1, 4)?;
-    read_length(rt, 2, 16)?;
-    read_length(rt, 3, 64)?;
-    read_length(rt, 4, 256)?;
-    read(rt, b"+-", -128)?;
-    read(rt, b"+-", -127)?;
-    read(rt, b"+-", 0)?;
-    read(rt, b"+-", 127)?;
-    read(rt, b"+-", 128)?;
-    read(rt, b"+ +", 0)?;
-    read(rt, b"+0+", 0)?;
-    read(rt, b"++-", 0)?;
-    read(rt, b"+0-0-+?", 0)?;
-    let many = [b'x'; 64];
-    read(rt, &many, 0)
+    for n in 0..=4 {
+        read_length(rt, n)?;
+    }
+    for unit in [-128, -127, 0, 127, 128] {
+        read(rt, b"+-", unit)?;
+    }
+    for text in ["+ +", "+0+", "++-", "+0-0-+?"] {
+        read(rt, text.as_bytes(), 0)?;
+    }
+    read(rt, &[b'x'; 64], 0)
 }
 
 fn main(rt: HostRuntime) -> io::Result<()> {

@@ -37,6 +37,17 @@ enum Ended {
     NotWritten(End),
 }
 
+impl Ended {
+    fn line(&self) -> &'static str {
+        match self {
+            Ended::Listed => "listed\n",
+            Ended::Refused => "refused\n",
+            Ended::NotRead(_) => "not read\n",
+            Ended::NotWritten(_) => "not written\n",
+        }
+    }
+}
+
 // Over any input and output, so that the contract can name their bytes where they say which they have.
 fn list_file<R: Read, W: Write>(input: &mut R, out: &mut W) -> Ended
     ensures { IfSome (R.remaining input.old)
@@ -44,11 +55,9 @@ fn list_file<R: Read, W: Write>(input: &mut R, out: &mut W) -> Ended
 {
     let mut file = [0u8; ROOM];
     let run = whole_io::read_to_end(input, &mut file);
-    let count = run.count;
-    let end = run.end;
-    match end {
-        End::Whole => write_listing(&file[..count], out),
-        _ => Ended::NotRead(end),
+    match run.end {
+        End::Whole => write_listing(&file[..run.count], out),
+        end => Ended::NotRead(end),
     }
 }
 
@@ -57,18 +66,11 @@ fn write_listing<W: Write>(file: &[u8], out: &mut W) -> Ended
 {
     let mut text = [0u8; LONGEST];
     let listed = list_into(file, &mut text);
-    let count = listed.count;
-    let run = whole_io::write_whole(out, &text[..count]);
-    let end = run.end;
-    match end {
-        End::Whole => {
-            if listed.refused {
-                Ended::Refused
-            } else {
-                Ended::Listed
-            }
-        }
-        _ => Ended::NotWritten(end),
+    let run = whole_io::write_whole(out, &text[..listed.count]);
+    match run.end {
+        End::Whole if listed.refused => Ended::Refused,
+        End::Whole => Ended::Listed,
+        end => Ended::NotWritten(end),
     }
 }
 
@@ -92,68 +94,54 @@ fn list_into(file: &[u8], text: &mut [u8; LONGEST]) -> Listed
     }
 }
 
-fn tell<V: Env, E: Write>(env: &V, err: &mut E, ended: Ended) {
+// Says what went wrong, and how it ended to one who asks. The exit status is 0 however it ends, so the outcome is
+// the last line of standard error.
+fn tell(env: &impl Env, err: &mut impl Write, ended: Ended) {
     match ended {
-        Ended::Listed => outcome(env, err, b"listed\n"),
-        Ended::Refused => outcome(env, err, b"refused\n"),
-        Ended::NotRead(end) => stopped(env, err, b"listing: standard input", end, b"not read\n"),
-        Ended::NotWritten(end) => stopped(
-            env,
-            err,
-            b"listing: standard output",
-            end,
-            b"not written\n",
-        ),
+        Ended::Listed | Ended::Refused => {}
+        Ended::NotRead(end) => stopped(err, "listing: standard input", end),
+        Ended::NotWritten(end) => stopped(err, "listing: standard output", end),
+    }
+    if is_asked(env) {
+        say(err, ended.line());
     }
 }
 
-fn stopped<V: Env, E: Write>(env: &V, err: &mut E, what: &[u8], end: End, word: &[u8]) {
-    match end {
-        End::Failed(e) => fail(err, what, e),
-        _ => {
-            whole_io::write_whole(err, what);
-            whole_io::write_whole(err, b": takes no more bytes\n");
-        }
-    }
-    outcome(env, err, word);
+fn is_asked(env: &impl Env) -> bool {
+    let mut word = [0u8; 8];
+    matches!(env.arg(1, &mut word), Ok(n) if word[..n] == b"outcome"[..])
+}
+
+fn say(err: &mut impl Write, text: &str) {
+    whole_io::write_whole(err, text.as_bytes());
 }
 
 // A line of what failed, a colon and what the system says.
-fn fail<E: Write>(err: &mut E, what: &[u8], error: Error) {
-    let mut text = [0u8; ERROR_ROOM];
-    let n = write_error(error, &mut text);
-    whole_io::write_whole(err, what);
-    whole_io::write_whole(err, b": ");
-    whole_io::write_whole(err, without_number(&text[..n]));
-    whole_io::write_whole(err, b"\n");
+fn stopped(err: &mut impl Write, what: &str, end: End) {
+    say(err, what);
+    say(err, ": ");
+    match end {
+        End::Failed(error) => {
+            let mut room = [0u8; ERROR_ROOM];
+            whole_io::write_whole(err, without_number(text_of(error, &mut room)));
+        }
+        _ => say(err, "takes no more bytes"),
+    }
+    say(err, "\n");
 }
 
-// Puts an error's text at the front of the buffer, and answers its length.
-fn write_error(error: Error, text: &mut [u8; ERROR_ROOM]) -> usize
-    ensures { result ≤ 300 }
-{
-    let mut rest: &mut [u8] = &mut text[..];
+// An error's text, put at the front of the buffer.
+fn text_of(error: Error, room: &mut [u8; ERROR_ROOM]) -> &[u8] {
+    let mut rest: &mut [u8] = &mut room[..];
     let _ = write!(rest, "{error}");
-    ERROR_ROOM.saturating_sub(rest.len())
+    let count = ERROR_ROOM.saturating_sub(rest.len());
+    &room[..count]
 }
 
 // std puts an error's number behind what the system says, in brackets.
 fn without_number(text: &[u8]) -> &[u8] {
-    match text.iter().rposition(|b| *b == b'(') {
+    match text.iter().rposition(|&b| b == b'(') {
         Some(i) if 0 < i => &text[..i - 1],
         _ => text,
-    }
-}
-
-// The exit status is 0 however it ends: one who asks for the outcome has it as the last line of standard error.
-fn outcome<V: Env, E: Write>(env: &V, err: &mut E, word: &[u8]) {
-    let mut asked = [0u8; 8];
-    match env.arg(1, &mut asked) {
-        Ok(n) => {
-            if asked[..n] == b"outcome"[..] {
-                whole_io::write_whole(err, word);
-            }
-        }
-        Err(_) => {}
     }
 }

@@ -37,12 +37,8 @@ fn read_once<R: Read>(reader: &mut R, buf: &mut [u8]) -> Result<usize>
 {
     for _ in 1..MOST_INTERRUPTED {
         match reader.read(buf) {
-            Ok(n) => return Ok(n),
-            Err(e) => {
-                if e.kind() != ErrorKind::Interrupted {
-                    return Err(e);
-                }
-            }
+            Err(e) if e.kind() == ErrorKind::Interrupted => {}
+            read => return read,
         }
     }
     reader.read(buf)
@@ -54,12 +50,8 @@ fn write_once<W: Write>(writer: &mut W, buf: &[u8]) -> Result<usize>
 {
     for _ in 1..MOST_INTERRUPTED {
         match writer.write(buf) {
-            Ok(n) => return Ok(n),
-            Err(e) => {
-                if e.kind() != ErrorKind::Interrupted {
-                    return Err(e);
-                }
-            }
+            Err(e) if e.kind() == ErrorKind::Interrupted => {}
+            written => return written,
         }
     }
     writer.write(buf)
@@ -73,26 +65,21 @@ pub(crate) fn read_to_end<R: Read>(reader: &mut R, buf: &mut [u8]) -> Run
     ensures bytes { Consumes (R.remaining reader.old) (R.remaining reader.new) (take result.count buf.new) }
     ensures file_end { result.end ≡ End.Whole → result.count < length buf.new → IsAtEnd (R.remaining reader.new) }
 {
-    let mut done = 0;
-    while done < buf.len() {
-        match read_once(reader, &mut buf[done..]) {
-            Ok(0) => {
-                return Run {
-                    count: done,
-                    end: End::Whole,
-                };
-            }
-            Ok(n) => done += n,
+    let mut count = 0;
+    while count < buf.len() {
+        match read_once(reader, &mut buf[count..]) {
+            Ok(0) => break,
+            Ok(n) => count += n,
             Err(e) => {
                 return Run {
-                    count: done,
+                    count,
                     end: End::Failed(e),
                 };
             }
         }
     }
     Run {
-        count: done,
+        count,
         end: End::Whole,
     }
 }
@@ -104,26 +91,26 @@ pub(crate) fn write_whole<W: Write>(writer: &mut W, text: &[u8]) -> Run
     ensures end_value { result.count ≡ length text.now → result.end ≡ End.Whole }
     ensures bytes { Appends (W.contents writer.old) (W.contents writer.new) (take result.count text.now) }
 {
-    let mut done = 0;
-    while done < text.len() {
-        match write_once(writer, &text[done..]) {
+    let mut count = 0;
+    while count < text.len() {
+        match write_once(writer, &text[count..]) {
             Ok(0) => {
                 return Run {
-                    count: done,
+                    count,
                     end: End::Stuck,
                 };
             }
-            Ok(n) => done += n,
+            Ok(n) => count += n,
             Err(e) => {
                 return Run {
-                    count: done,
+                    count,
                     end: End::Failed(e),
                 };
             }
         }
     }
     Run {
-        count: done,
+        count,
         end: End::Whole,
     }
 }

@@ -7,376 +7,207 @@
 #![tactic(auto)]
 
 use running_sum::RunningSum;
-use std::io;
-use words::{Format, RoundBit, RoundBitWord};
+use std::{fmt, io};
+use words::{Format, Outcome, RoundBit, RoundBitWord};
 
-// A signed total: what was added less what was taken off, so that no addition can overflow unseen.
-#[derive(Clone, Copy)]
-struct Total {
-    more: u64,
-    less: u64,
-}
+// A number and its round bit.
+#[derive(Drop)]
+struct Shown(RoundBitWord);
 
-const NOTHING: Total = Total { more: 0, less: 0 };
-
-fn add(a: Total, b: Total) -> Total {
-    Total {
-        more: a.more.wrapping_add(b.more),
-        less: a.less.wrapping_add(b.less),
+impl fmt::Display for Shown {
+    fn fmt<W: fmt::Write>(&self, f: &mut fmt::Formatter<W>) -> fmt::Result {
+        let RoundBit(a, r) = self.0.number;
+        write!(f, "{a} {r}")
     }
 }
 
-fn take(a: Total, b: Total) -> Total {
-    add(
-        a,
-        Total {
-            more: b.less,
-            less: b.more,
-        },
-    )
-}
-
-fn twice(a: Total) -> Total {
-    add(a, a)
-}
-
-fn sixteen_times(a: Total) -> Total {
-    twice(twice(twice(twice(a))))
+fn word(a: i64, r: u8, width: u32, unit: i32) -> RoundBitWord {
+    RoundBitWord {
+        number: RoundBit(a, r),
+        format: Format { width, unit },
+    }
 }
 
 // The value of a word in half units of its own unit.
-fn value(w: RoundBitWord) -> Total {
-    let size = integers::absolute(w.number.0);
-    let round = Total {
-        more: w.number.1 as u64,
-        less: 0,
-    };
-    if w.number.0 < 0 {
-        twice(add(
-            round,
-            Total {
-                more: 0,
-                less: size,
-            },
-        ))
-    } else {
-        twice(add(
-            round,
-            Total {
-                more: size,
-                less: 0,
-            },
-        ))
-    }
+fn value(w: RoundBitWord) -> i64 {
+    let RoundBit(a, r) = w.number;
+    a.wrapping_add(i64::from(r)).wrapping_mul(2)
 }
 
-// A sum, the outcome and the word of the last call on it, and the two totals.
+// A sum, the outcome and the word of the last call on it, and the values of the words that went in and
+// out. These stay far below 2^63, so they never wrap.
 #[derive(Clone, Copy)]
 struct Trace {
     sum: RunningSum,
-    faulty: bool,
     outcome: u32,
     word: RoundBitWord,
-    accepted: Total,
-    handed_out: Total,
+    accepted: i64,
+    handed_out: i64,
 }
 
-fn put(t: Trace, w: RoundBitWord) -> Trace {
-    let a = t.sum.put(w);
-    let outcome = a.outcome;
-    let o = words::number_of(outcome);
-    let amount = if o == 0 { value(w) } else { NOTHING };
-    let accepted = add(t.accepted, amount);
-    let sum = a.sum;
-    let handed_out = t.handed_out;
-    Trace {
-        sum: sum,
-        faulty: t.faulty,
-        outcome: o,
-        word: w,
-        accepted: accepted,
-        handed_out: handed_out,
+impl Trace {
+    fn open(width: u32, unit: i32, depth: u64) -> Trace {
+        let a = running_sum::open(width, unit, depth);
+        Trace {
+            sum: a.sum,
+            outcome: words::number_of(a.outcome),
+            word: a.sum.kept,
+            accepted: 0,
+            handed_out: 0,
+        }
+    }
+
+    // Notes what a call answered, and gives the value of its word: 0 where it was refused.
+    fn note(&mut self, outcome: Outcome, word: RoundBitWord, sum: RunningSum) -> i64 {
+        self.outcome = words::number_of(outcome);
+        self.word = word;
+        self.sum = sum;
+        if self.outcome == 0 { value(word) } else { 0 }
+    }
+
+    fn put(&mut self, word: RoundBitWord) {
+        let a = self.sum.put(word);
+        let amount = self.note(a.outcome, word, a.sum);
+        self.accepted = self.accepted.wrapping_add(amount);
+    }
+
+    // The sum of the signal has depth 8: a word that it hands out counts 256 times.
+    fn hand_out(&mut self) {
+        let a = self.sum.hand_out();
+        let amount = self.note(a.outcome, a.word, a.sum).wrapping_mul(256);
+        self.handed_out = self.handed_out.wrapping_add(amount);
+    }
+
+    fn empty(&mut self) {
+        let a = self.sum.empty();
+        let amount = self.note(a.outcome, a.word, a.sum);
+        self.handed_out = self.handed_out.wrapping_add(amount);
+    }
+
+    // The fault.
+    fn drop_round_bit(&mut self) {
+        self.sum.kept.number.1 = 0;
+    }
+
+    // What went in less what came out and what is kept.
+    fn crept(&self) -> i64 {
+        self.accepted
+            .wrapping_sub(self.handed_out)
+            .wrapping_sub(value(self.sum.kept))
     }
 }
 
-fn without_round_bit(s: RunningSum) -> RunningSum {
-    let kept = s.kept;
-    let f = kept.format;
-    RunningSum {
-        kept: RoundBitWord {
-            number: RoundBit(kept.number.0, 0),
-            format: f,
-        },
-        depth: s.depth,
-    }
-}
-
-// The sum of the signal has depth 8: a word that it hands out counts 256 times.
-fn hand_out(t: Trace) -> Trace {
-    let a = t.sum.hand_out();
-    let outcome = a.outcome;
-    let o = words::number_of(outcome);
-    let word = a.word;
-    let amount = if o == 0 {
-        sixteen_times(sixteen_times(value(word)))
-    } else {
-        NOTHING
-    };
-    let left = a.sum;
-    let sum = if t.faulty {
-        without_round_bit(left)
-    } else {
-        left
-    };
-    let handed_out = add(t.handed_out, amount);
-    let accepted = t.accepted;
-    Trace {
-        sum: sum,
-        faulty: t.faulty,
-        outcome: o,
-        word: word,
-        accepted: accepted,
-        handed_out: handed_out,
-    }
-}
-
-fn empty(t: Trace) -> Trace {
-    let a = t.sum.empty();
-    let outcome = a.outcome;
-    let o = words::number_of(outcome);
-    let word = a.word;
-    let amount = if o == 0 { value(word) } else { NOTHING };
-    let handed_out = add(t.handed_out, amount);
-    let accepted = t.accepted;
-    let sum = a.sum;
-    Trace {
-        sum: sum,
-        faulty: t.faulty,
-        outcome: o,
-        word: word,
-        accepted: accepted,
-        handed_out: handed_out,
-    }
-}
-
-fn print_text(rt: &impl Print, text: &[u8]) -> io::Result<()> {
-    rt.write_all(text)
-}
-
-fn print_count(rt: &impl Print, n: u64) -> io::Result<()> {
-    rt.print(n)
-}
-
-fn print_total(rt: &impl Print, a: Total) -> io::Result<()> {
-    if a.more < a.less {
-        print_text(rt, b"-")?;
-        print_count(rt, a.less.wrapping_sub(a.more))?;
-    } else {
-        print_count(rt, a.more.wrapping_sub(a.less))?;
-    }
-    Ok(())
-}
-
-fn print_word(rt: &impl Print, w: RoundBitWord) -> io::Result<()> {
-    if w.number.0 < 0 {
-        print_text(rt, b"-")?;
-    }
-    print_count(rt, integers::absolute(w.number.0))?;
-    print_text(rt, b" ")?;
-    print_count(rt, w.number.1 as u64)
-}
-
-fn print_outcome(rt: &impl Print, t: Trace) -> io::Result<()> {
-    print_text(rt, b" ")?;
-    print_count(rt, t.outcome as u64)
-}
-
-fn print_answer(rt: &impl Print, t: Trace) -> io::Result<()> {
-    print_outcome(rt, t)?;
-    print_text(rt, b" word ")?;
-    print_word(rt, t.word)
-}
-
-fn print_kept(rt: &impl Print, t: Trace) -> io::Result<()> {
-    print_text(rt, b" kept ")?;
-    print_word(rt, t.sum.kept)?;
-    print_text(rt, b"\n")
-}
-
-fn print_totals(rt: &impl Print, t: Trace) -> io::Result<()> {
-    print_text(rt, b" in ")?;
-    print_total(rt, t.accepted)?;
-    print_text(rt, b" out ")?;
-    print_total(rt, t.handed_out)?;
-    print_text(rt, b" kept ")?;
-    print_total(rt, value(t.sum.kept))
-}
-
-fn opened(width: u32, unit: i32, depth: u64, faulty: bool) -> Trace {
-    let a = running_sum::open(width, unit, depth);
-    let outcome = a.outcome;
-    let o = words::number_of(outcome);
-    let sum = a.sum;
-    let kept = sum.kept;
-    Trace {
-        sum: sum,
-        faulty: faulty,
-        outcome: o,
-        word: kept,
-        accepted: NOTHING,
-        handed_out: NOTHING,
+impl fmt::Display for Trace {
+    fn fmt<W: fmt::Write>(&self, f: &mut fmt::Formatter<W>) -> fmt::Result {
+        let kept = value(self.sum.kept);
+        write!(
+            f,
+            "in {} out {} kept {kept}",
+            self.accepted, self.handed_out
+        )
     }
 }
 
 // P14: a put and a hand-out, and what each leaves.
-fn bench(rt: &impl Print, t: Trace, number: i64, round: u8) -> io::Result<Trace> {
-    let word = RoundBitWord {
-        number: RoundBit(number, round),
-        format: Format { width: 8, unit: 0 },
-    };
-    let a = put(t, word);
-    print_text(rt, b"put")?;
-    print_outcome(rt, a)?;
-    print_kept(rt, a)?;
-    let b = hand_out(a);
-    print_text(rt, b"hand out")?;
-    print_answer(rt, b)?;
-    print_kept(rt, b)?;
-    Ok(b)
-}
-
 fn bench_sheet(rt: &impl Print) -> io::Result<()> {
-    let a = bench(rt, opened(8, 0, 2, false), 3, 0)?;
-    let b = bench(rt, a, 3, 0)?;
-    bench(rt, b, 0, 1)?;
+    let mut t = Trace::open(8, 0, 2);
+    for (a, r) in [(3, 0), (3, 0), (0, 1)] {
+        t.put(word(a, r, 8, 0));
+        println!(rt; "put {} kept {}", t.outcome, Shown(t.sum.kept))?;
+        t.hand_out();
+        print!(rt; "hand out {} word {}", t.outcome, Shown(t.word))?;
+        println!(rt; " kept {}", Shown(t.sum.kept))?;
+    }
     Ok(())
-}
-
-// The sum and the faulty one, and where the signal is.
-#[derive(Clone, Copy)]
-struct Run {
-    sum: Trace,
-    crept: Trace,
-    signal: u32,
 }
 
 fn next(x: u32) -> u32 {
     ((75 * (x as u64) + 74) % 65537) as u32
 }
 
-fn fine(number: i64, round: u8, unit: i32) -> RoundBitWord {
-    RoundBitWord {
-        number: RoundBit(number, round),
-        format: Format {
-            width: 24,
-            unit: unit,
-        },
-    }
+fn fine(a: i64, r: u8) -> RoundBitWord {
+    word(a, r, 24, -8)
 }
 
 fn signal_word(x: u32) -> RoundBitWord {
-    fine(((x % 401) as i64) - 200, (x / 401 % 2) as u8, -8)
+    fine(i64::from(x % 401) - 200, (x / 401 % 2) as u8)
 }
 
-fn put_both(r: Run, w: RoundBitWord) -> Run {
-    Run {
-        sum: put(r.sum, w),
-        crept: put(r.crept, w),
-        signal: r.signal,
+// The sum, and the faulty one.
+#[derive(Drop)]
+struct Run {
+    sum: Trace,
+    faulty: Trace,
+}
+
+impl Run {
+    fn both<F: Fn(&mut Trace)>(&mut self, step: F)
+        requires { F.IsAlwaysCallable step }
+    {
+        step(&mut self.sum);
+        step(&mut self.faulty);
     }
-}
 
-fn hand_out_both(r: Run) -> Run {
-    Run {
-        sum: hand_out(r.sum),
-        crept: hand_out(r.crept),
-        signal: r.signal,
+    fn put(&mut self, word: RoundBitWord) {
+        self.both(|t| t.put(word));
     }
-}
 
-fn empty_both(r: Run) -> Run {
-    Run {
-        sum: empty(r.sum),
-        crept: empty(r.crept),
-        signal: r.signal,
+    fn hand_out(&mut self) {
+        self.both(Trace::hand_out);
+        self.faulty.drop_round_bit();
     }
-}
 
-// Two hand-outs in a row; a great word, the same again, which does not fit, and its opposite; a word of
-// another unit.
-fn six_calls(rt: &impl Print, r: Run) -> io::Result<Run> {
-    print_text(rt, b"calls")?;
-    let a = hand_out_both(r);
-    print_outcome(rt, a.sum)?;
-    let b = hand_out_both(a);
-    print_outcome(rt, b.sum)?;
-    let c = put_both(b, fine(8000000, 0, -8));
-    print_outcome(rt, c.sum)?;
-    let d = put_both(c, fine(8000000, 0, -8));
-    print_outcome(rt, d.sum)?;
-    let e = put_both(d, fine(-8000000, 0, -8));
-    print_outcome(rt, e.sum)?;
-    let f = put_both(e, fine(1, 1, -7));
-    print_outcome(rt, f.sum)?;
-    print_text(rt, b"\n")?;
-    Ok(f)
-}
+    fn empty(&mut self) {
+        self.both(Trace::empty);
+    }
 
-fn emptied(rt: &impl Print, r: Run) -> io::Result<Run> {
-    let a = empty_both(r);
-    print_text(rt, b"empty")?;
-    print_answer(rt, a.sum)?;
-    print_text(rt, b"\n")?;
-    Ok(a)
-}
+    // Two hand-outs in a row; a great word, the same again, which does not fit, and its opposite; a word of
+    // another unit.
+    fn six_calls(&mut self, rt: &impl Print) -> io::Result<()> {
+        print!(rt; "calls")?;
+        for _ in 0..2 {
+            self.hand_out();
+            print!(rt; " {}", self.sum.outcome)?;
+        }
+        let great = fine(8000000, 0);
+        for w in [great, great, fine(-8000000, 0), word(1, 1, 24, -7)] {
+            self.put(w);
+            print!(rt; " {}", self.sum.outcome)?;
+        }
+        println!(rt)
+    }
 
-fn print_run(rt: &impl Print, r: Run, k: u64) -> io::Result<()> {
-    print_count(rt, k)?;
-    print_totals(rt, r.sum)?;
-    print_text(rt, b" crept")?;
-    print_totals(rt, r.crept)?;
-    print_text(rt, b" by ")?;
-    let kept = value(r.crept.sum.kept);
-    print_total(rt, take(take(r.crept.accepted, r.crept.handed_out), kept))?;
-    print_text(rt, b"\n")
-}
-
-fn thousandth(rt: &impl Print, r: Run, k: u64) -> io::Result<Run> {
-    let a = six_calls(rt, r)?;
-    let b = if k % 5000 == 0 { emptied(rt, a)? } else { a };
-    print_run(rt, b, k)?;
-    Ok(b)
-}
-
-fn advanced(rt: &impl Print, r: Run, k: u64) -> io::Result<Run> {
-    let x = next(r.signal);
-    let sum = r.sum;
-    let crept = r.crept;
-    let there = Run {
-        sum: sum,
-        crept: crept,
-        signal: x,
-    };
-    let a = put_both(there, signal_word(x));
-    let b = if k % 16 == 0 { hand_out_both(a) } else { a };
-    if k % 1000 == 0 {
-        thousandth(rt, b, k)
-    } else {
-        Ok(b)
+    fn thousandth(&mut self, rt: &impl Print, k: u32) -> io::Result<()> {
+        self.six_calls(rt)?;
+        if k % 5000 == 0 {
+            self.empty();
+            println!(rt; "empty {} word {}", self.sum.outcome, Shown(self.sum.word))?;
+        }
+        println!(rt;
+            "{k} {} crept {} by {}",
+            self.sum,
+            self.faulty,
+            self.faulty.crept()
+        )
     }
 }
 
 fn main(rt: HostRuntime) -> io::Result<()> {
     bench_sheet(&rt)?;
     let mut run = Run {
-        sum: opened(24, -8, 8, false),
-        crept: opened(24, -8, 8, true),
-        signal: 1,
+        sum: Trace::open(24, -8, 8),
+        faulty: Trace::open(24, -8, 8),
     };
-    let mut k: u64 = 0;
-    while k < 10000 {
-        k += 1;
-        run = advanced(&rt, run, k)?;
+    let mut signal = 1;
+    for k in 1..=10000 {
+        signal = next(signal);
+        run.put(signal_word(signal));
+        if k % 16 == 0 {
+            run.hand_out();
+        }
+        if k % 1000 == 0 {
+            run.thousandth(&rt, k)?;
+        }
     }
     Ok(())
 }

@@ -1,16 +1,7 @@
 -- The buffer holds any listing, so `list` never refuses here: what is handed on is the listing, whole, and its
 -- first byte tells whether the file was refused.
 use Rattle.std.specs.Prelude.{Ok, Err}
-use Prim.Native.Nat.{ℕ}
-use native.Mathlib.Omega.{arith}
-use mathlib.Core.Path.{◌≡◌, refl, sym}
-use mathlib.Core.Bool.{Bool, false}
-use mathlib.Core.List.{List, ◌++◌, append_assoc}
-use lib.Dec.{eqb}
-use lib.IntN.{ℤ}
-use lib.ListN.{length, take, get_or}
-use lib.Seq.{take_at}
-use borrow.Author.Tests.{le-ltb}
+use Rattle.std.proofs.Common.{ℕ, ℤ, Bool, false, ◌≡◌, refl, sym, List, ◌++◌, length, take, take_at, get_or, eqb, le-ltb, append_assoc, arith}
 use Rattle.integers.specs.Lists.{at_front}
 use Rattle.io.proofs.Counting.{prefix_len_of_le}
 use Rattle.words.specs.Outcomes.{Outcome}

@@ -16,12 +16,12 @@ front_put at n old part within fits =
     let more = take-append-le n part (post_of at (length old - at) old) fits in
     sym (front ∙ take-append-add (take at old) behind n ∙ ap (λ l. take at old ++ l) more)
 
-pub loop-done-preserved : goal.loop-done-preserved
-loop-done-preserved g c =
+pub loop-count-preserved : goal.loop-count-preserved
+loop-count-preserved g c =
     let read = c.in-Ok.ensures in
-    let before = c.loop-done.invariant in (
+    let before = c.loop-count.invariant in (
       search rules,
       search rules,
-      subst (Consumes _ _) (front_put c.loop-done.done c.in-Ok.n c.loop-done.buf c.read_once.new.buf before.1 read.bound.0)
+      subst (Consumes _ _) (front_put c.loop-count.count c.in-Ok.n c.loop-count.buf c.read_once.new.buf before.1 read.bound.0)
           (Consumes-trans _ _ _ _ _ before.2 read.bytes.0),
     )

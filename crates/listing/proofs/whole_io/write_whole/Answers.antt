@@ -15,9 +15,9 @@ front_more at n xs within fits =
       ap (λ l. take at xs ++ take n l) rest ∙ sym (take-add at n xs),
     )
 
-pub loop-done-preserved : goal.loop-done-preserved
-loop-done-preserved g c =
+pub loop-count-preserved : goal.loop-count-preserved
+loop-count-preserved g c =
     let put = c.in-Ok.ensures in
-    let before = c.loop-done.invariant in
-    let more = front_more c.loop-done.done c.in-Ok.n c.args.text.now before.0 put.bound in
+    let before = c.loop-count.invariant in
+    let more = front_more c.loop-count.count c.in-Ok.n c.args.text.now before.0 put.bound in
     (more.0, subst (Appends _ _) more.1 (Appends-trans _ _ _ _ _ before.1 put.bytes))
