@@ -1,19 +1,20 @@
--- What a passed check of each operation tells, and the word that a cut or a conversion with a depth makes. Assumes nothing.
--- Proved here: `to_plain_passed`, `from_round_bit_passed`, `sum_passed`, `product_passed`, `narrowed`.
-use Prim.Native.Nat.{ℕ}
-use mathlib.Core.Path.{◌≡◌}
-use lib.IntN.{ℤ}
-use mir.Syntax.{w64}
-use mir.Val.{SFits, to_z, of_z}
-use mir.Facts.{to_z-of_z}
-use Rattle.words.specs.Formats.{narrower, wider, answer_check}
+-- What a passed check of each operation tells, and what is answered by a rule. Assumes nothing.
+-- Proved here: `to_plain_passed`, `from_round_bit_passed`, `sum_passed`, `product_passed`, `cut_by_rule`, `sum_by_rule`.
+use mathlib.Core.Path.{◌≡◌, ap, ◌∙◌}
+use Rattle.std.specs.Prelude.{Result, Ok, Err}
+use lib.IntN.{ℤ, pos}
+use Rattle.words.specs.Formats.{wider, answer_check}
 use Rattle.words.specs.RoundBit.{round_bit_check}
-use Rattle.words.specs.HalfUnit.{half_unit_word, half_unit_check}
-use Rattle.words.specs.Outcomes.{Done}
+use Rattle.words.specs.HalfUnit.{half_unit_word, half_unit_check, half_unit_done, half_unit_fitted, ◌and_then◌}
 use Rattle.words.specs.declared.Format.{Format}
+use Rattle.words.specs.Answers.{answer_of}
+use Rattle.words.proofs.Given.{answer_then, answer_given}
+use Rattle.words.specs.declared.Cause.{Cause}
+use Rattle.words.specs.Outcomes.{Outcome, Done, ◌then◌}
 use Rattle.words.specs.Kinds.{RoundBitWord}
 use Rattle.words.specs.Kinds.{HalfUnitWord}
 use Rattle.words.proofs.Laws.{both_passed, three_passed}
+use Rattle.half_unit.specs.Rules.{MadeBy, word_in, fitted_in}
 use Rattle.half_unit.specs.Conversions.{to_plain_check, from_round_bit_check}
 use Rattle.half_unit.specs.Arithmetic.{sum_check, product_format, product_check}
 
@@ -30,7 +31,18 @@ pub product_passed : (x y : HalfUnitWord) → product_check x y ≡ Done →
     (half_unit_check x ≡ Done) × (half_unit_check y ≡ Done) × (answer_check (product_format x.format y.format) ≡ Done)
 product_passed x y e = three_passed (half_unit_check x) (half_unit_check y) _ e
 
--- ---- of a word of either kind: the number q that the code made of x by a rule, in the format g that it was handed for the depth
-pub narrowed : (rule : ℤ → ℕ → ℤ) (f g : Format) (x q : ℤ) (d : ℕ) → SFits w64 x → g ≡ narrower f d → SFits w64 q → q ≡ rule (to_z w64 (of_z w64 x)) d →
-    half_unit_word (to_z w64 (of_z w64 q)) g ≡ half_unit_word (rule x d) (narrower f d)
-narrowed rule f g x q d s h t e = rw (h, to_z-of_z t, e, to_z-of_z s)
+-- ---- what is answered that is made of a number that a rule gives, where the rule gives only q
+module _ (Gives : ℤ → Type 0) (o : Outcome) (f : Format) (q : ℤ) (r : Result HalfUnitWord Cause) (only : (p : ℤ) → Gives p → p ≡ q) where
+  made_by : (made : ℤ → Result HalfUnitWord Cause) → MadeBy Gives o made r → r ≡ (o then made q)
+  made_by made m = go o m
+    where
+      go : (o : Outcome) → MadeBy Gives o made r → r ≡ (o then made q)
+      go (Ok tt) m = m.2 ∙ ap made (only m.0 m.1)
+      go (Err c) m = m
+
+  pub cut_by_rule : MadeBy Gives o (word_in f) r → answer_of (record { 0 = pos 0 }) r ≡ (o and_then half_unit_done (half_unit_word q f))
+  cut_by_rule m = rw (made_by (word_in f) m, answer_given)
+
+  pub sum_by_rule : MadeBy Gives o (fitted_in f) r → answer_of (record { 0 = pos 0 }) r ≡ (o and_then half_unit_fitted (half_unit_word q f))
+  unfolding half_unit_fitted
+  sum_by_rule m = rw (made_by (fitted_in f) m, answer_then, answer_given)

@@ -12,5 +12,5 @@ use Rattle.half_unit.specs.Arithmetic.{multiplied, product_word, product_of}
 -- "Widths 32 and 32: .. half-unit product 6. Widths 32 and 31: half-unit product done."
 widths : (product_of (at 32 (pos 0)) (at 32 (pos 0)) ≡ half_unit_refused WidthPast)
     × (product_of (at 32 (pos 0)) (at 31 (pos 0)) ≡ half_unit_done (half_unit_word (pos 0) (format 63 (negsuc 0))))
-unfolding fits_width floor_by format_check word_check answer_check half_unit_check multiplied product_word
+unfolding fits_width floor_by format_check word_check answer_check multiplied product_word
 widths = (refl, refl)

@@ -74,14 +74,14 @@ wrong =
     ∷ []
 
 ends_right : all_runs ends (run near_end [] (refused 0)) right ≡ true
-unfolding first_bad fits_width floor_by format_check word_check narrower_check half_unit_check ran_by sign_change_word cut_word
+unfolding first_bad fits_width floor_by format_check word_check narrower_check ran_by sign_change_word cut_word
 ends_right = refl
 
 ends_wrong : all_runs (λ r. not (ends r)) (run near_end [] (refused 0)) wrong ≡ true
-unfolding first_bad fits_width floor_by format_check word_check narrower_check half_unit_check ran_by sign_change_word cut_word
+unfolding first_bad fits_width floor_by format_check word_check narrower_check ran_by sign_change_word cut_word
 ends_wrong = refl
 
 -- ---- how near to half its unit an end may be: 8 by 2 is 2, so 8 1/2 units came out as 10, off by 3 half units where half of the new unit is 4
 just_closer : (far_from half_unit_value (at 5 (pos 8)) (cut 2 ∷ []) (ran (at 5 (pos 8)) (cut 2 ∷ [])).word ≡ 3) × (half_its_unit (cut 2 ∷ []) ≡ 4)
-unfolding value fits_width floor_by format_check word_check narrower_check half_unit_check ran_by cut_word depths turns is_odd
+unfolding value fits_width floor_by format_check word_check narrower_check ran_by cut_word depths turns is_odd
 just_closer = (refl, refl)

@@ -57,16 +57,14 @@ to_plain_done : (w : HalfUnitWord) → (to_plain_of w).outcome ≡ Done → to_p
 to_plain_done w e = done_passed plain_refused (λ a. a.outcome) (λ c. refl) (to_plain_check w) (plain_done (to_plain_word w)) e
 
 to_plain_tells : (w : HalfUnitWord) → to_plain_check w ≡ Done → Right w.format w.number.0 0 × RightFormat (wider w.format 1)
-unfolding half_unit_check
 to_plain_tells w c = wider_right w.format w.number.0 0 1 c
 
 from_round_bit_tells : (w : RoundBitWord) → from_round_bit_check w ≡ Done → Right w.format w.number.0 w.number.1 × RightFormat (wider w.format 1)
-unfolding round_bit_check
 from_round_bit_tells w c = wider_right w.format w.number.0 w.number.1 1 c
 
 -- ---- the words that a passed check lets through pass their own. The up rule cuts the half-unit word that has the plain word's number
 up_word_passes : (w : PlainWord) (d : ℕ) → from_plain_check w d ≡ Done → half_unit_check (from_plain_up_word w d) ≡ Done
-unfolding plain_check from_plain_up_word half_unit_check cut_word
+unfolding from_plain_up_word cut_word
 up_word_passes w d c = cut_word_passes (half_unit_word w.number.0 w.format) d c
 
 even_word_passes : (w : PlainWord) (d : ℕ) → from_plain_check w d ≡ Done → half_unit_check (from_plain_even_word w d) ≡ Done

@@ -28,11 +28,9 @@ use Rattle.half_unit.proofs.Laws.Cuts.{answer_closed}
 
 -- ---- what the check of a sum tells, and that it does not look at the order
 sum_tells : (x y : HalfUnitWord) → sum_check x y ≡ Done → Right x.format x.number.0 0 × Right y.format y.number.0 0 × (x.format ≡ y.format)
-unfolding half_unit_check
 sum_tells x y c = operands_right x.format x.number.0 0 y.format y.number.0 0 c
 
 sum_check_comm : (x y : HalfUnitWord) → sum_check x y ≡ Done → sum_check y x ≡ Done
-unfolding half_unit_check
 sum_check_comm x y c = let t = sum_tells x y c in right_operands t.1 t.0 (sym t.2)
 
 -- ---- a done product passed its check; what that tells, and that it does not look at the order
@@ -41,7 +39,6 @@ product_done x y e = done_passed half_unit_refused (λ a. a.outcome) (λ c. refl
 
 product_tells : (x y : HalfUnitWord) → product_check x y ≡ Done →
     Right x.format x.number.0 0 × Right y.format y.number.0 0 × RightFormat (product_format x.format y.format)
-unfolding half_unit_check
 product_tells x y c =
     let f = product_format x.format y.format in
     let p = both_right x.format x.number.0 0 y.format y.number.0 0 (answer_check f) c in
@@ -53,7 +50,6 @@ product_format_comm f g =
     rw (width, +ℤ_comm f.unit g.unit)
 
 product_check_comm : (x y : HalfUnitWord) → product_check x y ≡ Done → product_check y x ≡ Done
-unfolding half_unit_check
 product_check_comm x y c =
     let t = product_tells x y c in
     right_both t.1 t.0 (answer_done _ (rw (product_format_comm x.format y.format) at t.2))
