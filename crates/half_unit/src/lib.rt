@@ -63,7 +63,7 @@ fn cut_by<N: Digits, F: Fn(i64, u64) -> i64>(
 }
 
 // Cut by d: the floor.
-#[tactic(auto, unfolding(crate::specs::Cuts::cut_word), using(crate::proofs::Checks::cut_by_rule))]
+#[tactic(auto, unfolding(crate::specs::Cuts::cut_word), using(crate::proofs::Rules::cut_by_rule))]
 pub fn cut(w: HalfUnitWord, d: u64) -> CutAnswer<HalfUnit>
     ensures { result ≡ cut_of w d }
 {
@@ -71,7 +71,7 @@ pub fn cut(w: HalfUnitWord, d: u64) -> CutAnswer<HalfUnit>
 }
 
 // From plain with a depth, by the up rule: the floor.
-#[tactic(auto, unfolding(crate::specs::Conversions::from_plain_up_word), using(crate::proofs::Checks::cut_by_rule))]
+#[tactic(auto, unfolding(crate::specs::Conversions::from_plain_up_word), using(crate::proofs::Rules::cut_by_rule))]
 pub fn from_plain_up(w: PlainWord, d: u64) -> HalfUnitAnswer
     ensures { result ≡ from_plain_up_of w d }
 {
@@ -92,7 +92,7 @@ fn even_floor(x: i64, d: u64) -> i64
     }
 }
 
-#[tactic(auto, unfolding(crate::specs::Conversions::from_plain_even_word), using(crate::proofs::Checks::cut_by_rule))]
+#[tactic(auto, unfolding(crate::specs::Conversions::from_plain_even_word), using(crate::proofs::Rules::cut_by_rule))]
 pub fn from_plain_even(w: PlainWord, d: u64) -> HalfUnitAnswer
     ensures { result ≡ from_plain_even_of w d }
 {
@@ -180,7 +180,7 @@ fn sum_by<F: Fn(i64) -> i64>(
 }
 
 // Sum by the up rule: x+y+1.
-#[tactic(auto, unfolding(crate::specs::Arithmetic::sum_up_word), using(crate::proofs::Checks::sum_by_rule))]
+#[tactic(auto, unfolding(crate::specs::Arithmetic::sum_up_word), using(crate::proofs::Rules::sum_by_rule))]
 pub fn sum_up(x: HalfUnitWord, y: HalfUnitWord) -> HalfUnitAnswer
     ensures { result ≡ sum_up_of x y }
 {
@@ -188,7 +188,7 @@ pub fn sum_up(x: HalfUnitWord, y: HalfUnitWord) -> HalfUnitAnswer
 }
 
 // Sum by the even rule: the same with its lowest digit cleared.
-#[tactic(auto, unfolding(crate::specs::Arithmetic::sum_up_word, crate::specs::Arithmetic::sum_even_word), using(crate::proofs::Checks::sum_by_rule))]
+#[tactic(auto, unfolding(crate::specs::Arithmetic::sum_up_word, crate::specs::Arithmetic::sum_even_word), using(crate::proofs::Rules::sum_by_rule))]
 pub fn sum_even(x: HalfUnitWord, y: HalfUnitWord) -> HalfUnitAnswer
     ensures { result ≡ sum_even_of x y }
 {

@@ -4,14 +4,12 @@ use borrow.Author.Rules.{rules}
 use mir.Facts.{to_z-of_z}
 use Rattle.words.specs.Outcomes.{Done}
 use Rattle.words.specs.Kinds.{HalfUnitWord}
-use Rattle.words.proofs.Laws.{half_unit_right}
-use Rattle.words.proofs.Operands.{Sums, sums}
+use Rattle.words.proofs.Operands.{operands_right, Sums, sums}
 use Rattle.half_unit.specs.Arithmetic.{sum_check}
-use Rattle.half_unit.proofs.Checks.{sum_passed}
 use Rattle.half_unit.proofs.sum_by.Goals as goal
 
 fits : (x y : HalfUnitWord) → sum_check x y ≡ Done → Sums x.number.0 y.number.0 1
-fits x y e = let p = sum_passed x y e in sums 1 (half_unit_right x p.0) (half_unit_right y p.1) (omega arith)
+fits x y e = let p = operands_right _ _ _ _ _ _ e in sums 1 p.0 p.1 (omega arith)
 
 pub overflow_add-x : goal.overflow_add-x
 overflow_add-x g c =
