@@ -5,7 +5,7 @@ use Rattle.integers.specs.Numbers.{fits_width, floor_by}
 use Rattle.words.specs.Refusals.{format_check, word_check}
 use Rattle.words.specs.declared.Cause.TheVariants.{WidthPast}
 use Rattle.words.specs.Formats.{format, answer_check}
-use Rattle.words.specs.HalfUnit.{half_unit_word, half_unit_check, half_unit_refused, half_unit_done}
+use Rattle.words.specs.HalfUnit.{half_unit_word, half_unit_refused, half_unit_done}
 use Rattle.words.specs.Flat.{half_unit_at as at}
 use Rattle.half_unit.specs.Arithmetic.{multiplied, product_word, product_of}
 

@@ -1,6 +1,6 @@
 mod Examples
 mod Runs
-pub mod Checks
+pub mod Rules
 pub mod Laws
 pub mod Links
 mod Wrong

@@ -10,7 +10,7 @@ use Rattle.integers.specs.Lists.{first_bad}
 use Rattle.words.specs.Words.{value}
 use Rattle.words.specs.Refusals.{format_check, word_check}
 use Rattle.words.specs.Formats.{format, narrower_check}
-use Rattle.words.specs.HalfUnit.{half_unit_word, half_unit_value, half_unit_check}
+use Rattle.words.specs.HalfUnit.{half_unit_word, half_unit_value}
 use Rattle.words.specs.Flat.{Flat, flat, laid_flat, half_unit_at as at, done, refused}
 use Rattle.words.specs.Moves.{cut, sign_change, ran_by, depths, turns, is_odd, half_its_unit, far_from}
 use Rattle.words.specs.Outcomes.{Outcome}

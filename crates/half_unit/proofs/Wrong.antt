@@ -10,9 +10,7 @@ use Rattle.integers.specs.Numbers.{fits_width, floor_by, lowest, cleared, digit,
 use Rattle.integers.specs.Lists.{first_bad, all}
 use Rattle.words.specs.Refusals.{format_check, word_check}
 use Rattle.words.specs.Formats.{narrower_check, answer_check}
-use Rattle.words.specs.Plain.{plain_check}
-use Rattle.words.specs.RoundBit.{round_bit_check}
-use Rattle.words.specs.HalfUnit.{half_unit_check, half_unit_fitted}
+use Rattle.words.specs.HalfUnit.{half_unit_fitted}
 use Rattle.words.specs.Flat.{Flat, flat, laid_flat, flat_plain, flat_round_bit, flat_half_unit, same_flat, plain_at, round_bit_at, half_unit_at as at, done}
 use Rattle.words.specs.Flat.{refused}
 use Rattle.words.specs.Kinds.{PlainWord}

@@ -2,12 +2,14 @@
 use Rattle.std.specs.Prelude.{ℕ}
 use Rattle.integers.specs.Names.{turned, floor_by}
 use Rattle.words.specs.Outcomes.{Outcome}
+use Rattle.words.specs.declared.HalfUnit.{HalfUnit}
+use Rattle.words.specs.declared.CutAnswer.{CutAnswer}
+use Rattle.words.specs.Answers.{cut_answer}
 use Rattle.words.specs.Kinds.{HalfUnitWord}
 use Rattle.words.specs.Kinds.{HalfUnitAnswer}
 use Rattle.words.specs.Refusals.{◌or_else◌}
 use Rattle.words.specs.Formats.{narrower, narrower_check}
 use Rattle.words.specs.HalfUnit.{half_unit_word, half_unit_check, half_unit_done, ◌and_then◌}
-use Rattle.half_unit.specs.declared.CutAnswer.{CutAnswer}
 
 -- "Sign change: -1-w."
 unfoldable pub sign_change_word : HalfUnitWord → HalfUnitWord
@@ -24,9 +26,5 @@ cut_word w d = half_unit_word (floor_by w.number.0 d) (narrower w.format d)
 abbrev pub cut_check : HalfUnitWord → ℕ → Outcome
 cut_check w d = half_unit_check w or_else narrower_check w.format d
 
--- the answer of a cut has what any answer has
-abbrev pub cut_answer : HalfUnitAnswer → CutAnswer
-cut_answer a = record { outcome = a.outcome; word = a.word }
-
-abbrev pub cut_of : HalfUnitWord → ℕ → CutAnswer
+abbrev pub cut_of : HalfUnitWord → ℕ → CutAnswer HalfUnit
 cut_of w d = cut_answer (cut_check w d and_then half_unit_done (cut_word w d))

@@ -23,7 +23,8 @@ use Rattle.words.proofs.Laws.{both_passed, both_pass, Right, half_unit_right, ha
 use Rattle.words.proofs.Formats.{narrower_none, narrower_passes, narrower_first, narrower_then, narrower_narrower}
 use Rattle.words.proofs.Rights.{floor_right}
 use Rattle.words.proofs.Operands.{done_passed, outcome_kept}
-use Rattle.half_unit.specs.Cuts.{sign_change_word, sign_change_of, cut_word, cut_check, cut_answer, cut_of}
+use Rattle.words.specs.Answers.{cut_answer}
+use Rattle.half_unit.specs.Cuts.{sign_change_word, sign_change_of, cut_word, cut_check, cut_of}
 
 -- ---- how far a value of 2 x + c half units moves where floor (x / 2 ^ d) less l is taken for x: a new half unit is 2 ^ d old ones
 module _ (x v q : ℤ) (c l d : ℕ) (of-v : up v + 2 * down x ≡ 2 * up x + c + down v) (of-q : up q + l + down (floor_by x d) ≡ up (floor_by x d) + down q) where

@@ -17,7 +17,7 @@ use Rattle.words.specs.Formats.{answer_check}
 use Rattle.words.specs.HalfUnit.{half_unit_value, half_unit_check, half_unit_refused, half_unit_done, half_unit_fitted, ◌and_then◌}
 use Rattle.words.specs.declared.Format.{Format}
 use Rattle.words.specs.Outcomes.{Outcome}
-use Rattle.words.specs.Outcomes.{Done, Refused}
+use Rattle.words.specs.Outcomes.{Done}
 use Rattle.words.specs.Kinds.{HalfUnitWord}
 use Rattle.words.proofs.Laws.{RightFormat, Right, half_unit_passes, half_unit_law}
 use Rattle.words.proofs.Formats.{answer_right, answer_done}
