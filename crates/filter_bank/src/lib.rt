@@ -31,7 +31,7 @@ const TAP_WIDTH: u32 = 12;
 
 const SAMPLE_WIDTH: u32 = 16;
 
-const SUM_WIDTH: u32 = 31;
+const SUM_WIDTH: u64 = 31;
 
 const CUT_DEPTH: u64 = 11;
 
@@ -121,7 +121,7 @@ fn sum_format(taps: [RoundBitWord; 8], window: [RoundBitWord; 8], channel: u32) 
         words::format_refused(c)
     } else {
         words::formed(
-            u64::from(SUM_WIDTH),
+            SUM_WIDTH,
             words::units_multiplied(taps[0].format, window[0].format),
         )
     }
