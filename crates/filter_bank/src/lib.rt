@@ -17,7 +17,7 @@ ghost use Rattle.words.specs.Formats.{format, format_answer};
 ghost use Rattle.words.specs.RoundBit.{round_bit_refused};
 ghost use Rattle.round_bit.specs.Cuts.{cut_of};
 ghost use Rattle.round_bit.specs.Arithmetic.{added, sign_changed_if, multiplied};
-ghost use Rattle.filter_bank.specs.Bank.{most_channel, sum_width, cut_depth, products, total, any_differ, unlike, products_unit, row_check, output_answer, channel_output_of, output_of};
+ghost use Rattle.filter_bank.specs.Bank.{most_channel, sum_width, cut_depth, products, total, any_differ, unlike, products_unit, words_check, row_check, output_answer, channel_output_of, output_of};
 
 use words::{Cause, Format, FormatAnswer, Outcome, RoundBit, RoundBitWord};
 
@@ -31,7 +31,7 @@ const TAP_WIDTH: u32 = 12;
 
 const SAMPLE_WIDTH: u32 = 16;
 
-const SUM_WIDTH: u32 = 31;
+const SUM_WIDTH: u64 = 31;
 
 const CUT_DEPTH: u64 = 11;
 
@@ -62,15 +62,7 @@ fn output_refused(c: Cause) -> OutputAnswer
 fn any_differ(f: Format, w: [RoundBitWord; 8]) -> bool
     ensures { result ≡ any_differ f w }
 {
-    let mut i: usize = 0;
-    while i < TAPS {
-        let x = w[i];
-        if words::differ(x.format, f) {
-            return true;
-        }
-        i += 1;
-    }
-    false
+    w.iter().any(|x| words::differ(x.format, f))
 }
 
 // This width, with the unit of a word.
@@ -91,23 +83,27 @@ fn unlike(width: u32, w: [RoundBitWord; 8]) -> bool
     any_differ(f, w)
 }
 
+// 1, 2, 3 of eight words, word by word.
+fn words_check(w: [RoundBitWord; 8]) -> Outcome
+    ensures { result ≡ words_check w }
+{
+    for x in w {
+        if let Outcome::Refused(c) = words::round_bit_check(x) {
+            return Outcome::Refused(c);
+        }
+    }
+    Outcome::Done
+}
+
 // 1, 2, 3 of the taps, tap by tap, then of the samples, then 4.
 fn row_check(taps: [RoundBitWord; 8], window: [RoundBitWord; 8]) -> Outcome
     ensures { result ≡ row_check taps window }
 {
-    let mut i: usize = 0;
-    while i < TAPS {
-        if let Outcome::Refused(c) = words::round_bit_check(taps[i]) {
-            return Outcome::Refused(c);
-        }
-        i += 1;
+    if let Outcome::Refused(c) = words_check(taps) {
+        return Outcome::Refused(c);
     }
-    let mut j: usize = 0;
-    while j < TAPS {
-        if let Outcome::Refused(c) = words::round_bit_check(window[j]) {
-            return Outcome::Refused(c);
-        }
-        j += 1;
+    if let Outcome::Refused(c) = words_check(window) {
+        return Outcome::Refused(c);
     }
     words::refuse_for(
         Cause::Mismatch,
@@ -119,16 +115,14 @@ fn row_check(taps: [RoundBitWord; 8], window: [RoundBitWord; 8]) -> Outcome
 fn sum_format(taps: [RoundBitWord; 8], window: [RoundBitWord; 8], channel: u32) -> FormatAnswer
     ensures { result ≡ format_answer (refuse 17 (ltb most_channel channel) or_else row_check taps window or_else refuse 7 (bad_unit (products_unit taps window))) (format sum_width (products_unit taps window)) }
 {
-    let t = taps[0];
-    let s = window[0];
     if MOST_CHANNEL < channel {
         words::format_refused(Cause::Channel)
     } else if let Outcome::Refused(c) = row_check(taps, window) {
         words::format_refused(c)
     } else {
         words::formed(
-            SUM_WIDTH as u64,
-            words::units_multiplied(t.format, s.format),
+            SUM_WIDTH,
+            words::units_multiplied(taps[0].format, window[0].format),
         )
     }
 }
@@ -138,7 +132,7 @@ fn turned_if(test: bool, r: u8) -> u8
     requires { r ≤ 1 }
     ensures { result ≡ (sign_changed_if test (record { 0 = pos 0; 1 = r })).1 }
 {
-    r ^ (test as u8)
+    r ^ u8::from(test)
 }
 
 // The round bit of a product, which goes by the signs: of the magnitudes, turned over if exactly one
@@ -156,7 +150,7 @@ fn worth(a: i64, r: u8) -> i64
     requires { (mag a < 2 ^ 15) × (r ≤ 1) }
     ensures { result ≡ a +ℤ pos r }
 {
-    a + r as i64
+    a + i64::from(r)
 }
 
 // A tap times its sample: it is worth what they are worth, multiplied.
@@ -165,7 +159,7 @@ fn tap_product(t: RoundBit, s: RoundBit) -> RoundBit
     ensures { result ≡ multiplied t s }
 {
     let bit = product_bit(t, s);
-    RoundBit(worth(t.0, t.1) * worth(s.0, s.1) - bit as i64, bit)
+    RoundBit(worth(t.0, t.1) * worth(s.0, s.1) - i64::from(bit), bit)
 }
 
 // A sum and one more product.
@@ -173,7 +167,7 @@ fn summed(m: RoundBit, n: RoundBit) -> RoundBit
     requires { (mag m.0 < 2 ^ 29) × (m.1 ≤ 1) × (mag n.0 < 2 ^ 29) × (n.1 ≤ 1) }
     ensures { result ≡ added m n }
 {
-    RoundBit(m.0 + n.0 + (m.1 & n.1) as i64, m.1 | n.1)
+    RoundBit(m.0 + n.0 + i64::from(m.1 & n.1), m.1 | n.1)
 }
 
 // The products, added from tap 0 up.
@@ -181,15 +175,9 @@ fn total(taps: [RoundBitWord; 8], window: [RoundBitWord; 8]) -> RoundBit
     requires { row_check taps window ≡ Outcome.Done }
     ensures { result ≡ (total (products taps window)).number }
 {
-    let t = taps[0];
-    let s = window[0];
-    let mut sum = tap_product(t.number, s.number);
-    let mut i: usize = 1;
-    while i < TAPS {
-        let t = taps[i];
-        let s = window[i];
-        sum = summed(sum, tap_product(t.number, s.number));
-        i += 1;
+    let mut sum = tap_product(taps[0].number, window[0].number);
+    for i in 1..TAPS {
+        sum = summed(sum, tap_product(taps[i].number, window[i].number));
     }
     sum
 }

@@ -11,7 +11,7 @@ tap_product-sum-requires c =
 
 pub loop-i-init : goal.loop-i-init
 loop-i-init c =
-    (omega arith, rw c.tap_product-sum.ensures (first_kept c.args.taps c.args.window c.requires (omega arith) (omega arith)))
+    rw c.tap_product-sum.ensures (first_kept c.args.taps c.args.window c.requires (omega arith) (omega arith))
 
 pub tap_product-requires : goal.tap_product-requires
 tap_product-requires c =
@@ -22,17 +22,17 @@ tap_product-requires c =
 pub summed-sum-requires : goal.summed-sum-requires
 summed-sum-requires c =
     let l = c.loop-i in
-    let k = l.invariant.1 in
+    let k = l.invariant in
     let p = times_small c.args.taps c.args.window c.requires (omega arith) (omega arith) l.i (omega arith) in
     (omega (arith, k.size), k.bit, rw c.tap_product.ensures (omega (arith, p.size)), rw c.tap_product.ensures p.bit)
 
 pub loop-i-preserved : goal.loop-i-preserved
 loop-i-preserved c =
     let l = c.loop-i in
-    let k = next_kept c.args.taps c.args.window c.requires (omega arith) (omega arith) l.i l.sum (omega arith) l.invariant.1 in
-    (omega arith, rw (c.summed-sum.ensures, c.tap_product.ensures) k)
+    let k = next_kept c.args.taps c.args.window c.requires (omega arith) (omega arith) l.i l.sum (omega arith) l.invariant in
+    rw (c.summed-sum.ensures, c.tap_product.ensures) k
 
 pub returns : goal.returns
 returns c =
     let l = c.loop-i in
-    sym (all_kept c.args.taps c.args.window c.requires (omega arith) (omega arith) l.i l.sum (omega arith) l.invariant.1)
+    sym (all_kept c.args.taps c.args.window c.requires (omega arith) (omega arith) l.i l.sum (omega arith) l.invariant)
