@@ -154,7 +154,7 @@ place_fits t e = go (format_check f) refl
     f = format (length t) e
 
     go : (o : Outcome) → format_check f ≡ o → place_of t (o or_else fault_check t) ≤ 63
-    go (Ok tt) d = omega (arith, place_le t (fault_check t), (right_format f d).wide)
+    go (Ok _) d = omega (arith, place_le t (fault_check t), (right_format f d).wide)
     go (Err c) d = let none_told = rw d at (format_place t f) in rw none_told (omega arith)
 
 -- ---- what a passed check of a reading tells

@@ -7,7 +7,7 @@ use lib.ListN.{set, replicate}
 use Rattle.integers.specs.Numbers.{fits_width, floor_by, lowest, digit}
 use Rattle.words.specs.Refusals.{format_check, word_check}
 use Rattle.words.specs.Formats.{format}
-use Rattle.words.specs.RoundBit.{round_bit_word, round_bit_check}
+use Rattle.words.specs.RoundBit.{round_bit_word}
 use Rattle.words.specs.Outcomes.{Done}
 use Rattle.words.specs.Kinds.{RoundBitWord}
 use Rattle.round_bit.specs.Cuts.{cut_by}

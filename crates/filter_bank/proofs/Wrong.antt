@@ -9,7 +9,6 @@ use lib.ListN.{length, get_or, set, replicate}
 use Rattle.integers.specs.Numbers.{fits_width, floor_by, lowest, digit}
 use Rattle.integers.specs.Lists.{first_bad, all}
 use Rattle.words.specs.Refusals.{format_check, word_check}
-use Rattle.words.specs.RoundBit.{round_bit_check}
 use Rattle.words.specs.Flat.{Flat, flat, laid_flat, same_flat, refused}
 use Rattle.words.specs.Kinds.{RoundBitWord}
 use Rattle.round_bit.specs.Cuts.{cut_by}

@@ -14,7 +14,7 @@ use Rattle.half_unit.specs.Rules.{MadeBy, word_in, fitted_in}
 
 made_by : (Gives : ℤ → Type 0) (o : Outcome) (made : ℤ → Result HalfUnitWord Cause) (q : ℤ) (r : Result HalfUnitWord Cause) →
     ((p : ℤ) → Gives p → p ≡ q) → MadeBy Gives o made r → r ≡ (o then made q)
-made_by Gives (Ok tt) made q r only m = m.2 ∙ ap made (only m.0 m.1)
+made_by Gives (Ok _) made q r only m = m.2 ∙ ap made (only m.0 m.1)
 made_by Gives (Err c) made q r only m = m
 
 module _ (Gives : ℤ → Type 0) (o : Outcome) (f : Format) (q : ℤ) (r : Result HalfUnitWord Cause) (only : (p : ℤ) → Gives p → p ≡ q) where

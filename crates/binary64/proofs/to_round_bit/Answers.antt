@@ -31,7 +31,7 @@ by-fit false x f = refl
 same : (o : Outcome) (x : ℤ) (f : Format) → with-bit (o and_then_plain plain_fitted (plain_word x f)) ≡ (o and_then round_bit_fitted (round_bit_word x 0 f))
 unfolding plain_fitted round_bit_fitted
 same (Err c) x f = refl
-same (Ok tt) x f = by-fit (outside f x) x f
+same (Ok _) x f = by-fit (outside f x) x f
 
 pub returns : goal.returns
 returns c =
