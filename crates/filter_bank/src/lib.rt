@@ -70,7 +70,7 @@ fn in_width(width: u32, w: RoundBitWord) -> Format
     ensures { result ≡ format width w.format.unit }
 {
     Format {
-        width: width,
+        width,
         unit: w.format.unit,
     }
 }
