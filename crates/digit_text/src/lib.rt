@@ -216,7 +216,7 @@ fn refused_at(c: Cause, place: usize) -> Finding
 {
     Finding {
         outcome: Outcome::Refused(c),
-        place: place,
+        place,
     }
 }
 
@@ -278,8 +278,8 @@ fn read_word(text: &[u8], unit: i32) -> RoundBitWord
     RoundBitWord {
         number: RoundBit(number, round),
         format: Format {
-            width: width,
-            unit: unit,
+            width,
+            unit,
         },
     }
 }
@@ -292,7 +292,7 @@ fn read_refused(c: Cause, place: u32) -> ReadAnswer
     ReadAnswer {
         outcome: Outcome::Refused(c),
         word: blank,
-        place: place,
+        place,
     }
 }
 

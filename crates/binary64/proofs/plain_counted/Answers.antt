@@ -46,23 +46,23 @@ exact bits f p n x r passed unit is counted signed_is a =
 pub returns-then-outside : goal.returns-then-outside
 returns-then-outside c =
     let f = c.args.f in
-    let x : SFits w64 c.with_sign.result = record { sfits = c.with_sign.type_inv } in
-    exact c.args.bits f c.in_units-p.result c.nearest-count.result c.with_sign.result _ c.requires (search rules) c.in_units-p.ensures.0 c.nearest-count.ensures
-    c.with_sign.ensures
-    (fit_refusing plain_refused f c.with_sign.result c.outside.result _ _ x c.outside.ensures c.if-outside.true c.plain_refused.ensures)
+    let x : SFits w64 c.signed.result = record { sfits = c.signed.type_inv } in
+    exact c.args.bits f c.in_units-p.result c.nearest-count.result c.signed.result _ c.requires (search rules) c.in_units-p.ensures.0 c.nearest-count.ensures
+    c.signed.ensures
+    (fit_refusing plain_refused f c.signed.result c.outside.result _ _ x c.outside.ensures c.if-outside.true c.plain_refused.ensures)
 
 pub returns-else-outside : goal.returns-else-outside
 returns-else-outside c =
     let f = c.args.f in
-    let x : SFits w64 c.with_sign.result = record { sfits = c.with_sign.type_inv } in
-    let again = to_z-of_z {w = w64} (record { sfits = c.with_sign-else-outside.type_inv }) ∙ c.with_sign-else-outside.ensures ∙ sym c.with_sign.ensures in
-    exact c.args.bits f c.in_units-p.result c.nearest-count.result c.with_sign.result _ c.requires (search rules) c.in_units-p.ensures.0 c.nearest-count.ensures
-    c.with_sign.ensures
-    (fit_answering plain_refused f c.with_sign.result c.outside.result _ _ x c.outside.ensures c.if-outside.false
+    let x : SFits w64 c.signed.result = record { sfits = c.signed.type_inv } in
+    let again = to_z-of_z {w = w64} (record { sfits = c.signed-else-outside.type_inv }) ∙ c.signed-else-outside.ensures ∙ sym c.signed.ensures in
+    exact c.args.bits f c.in_units-p.result c.nearest-count.result c.signed.result _ c.requires (search rules) c.in_units-p.ensures.0 c.nearest-count.ensures
+    c.signed.ensures
+    (fit_answering plain_refused f c.signed.result c.outside.result _ _ x c.outside.ensures c.if-outside.false
     (c.plain_done.ensures ∙ ap (λ (i : ℤ). plain_done (plain_word i f)) again))
 
-pub with_sign-requires : goal.with_sign-requires
-with_sign-requires c = omega (arith, room c.in_units-p.result c.nearest-count.result c.nearest-count.ensures c.in_units-p.ensures.1)
+pub signed-requires : goal.signed-requires
+signed-requires c = omega (arith, room c.in_units-p.result c.nearest-count.result c.nearest-count.ensures c.in_units-p.ensures.1)
 
-pub with_sign-requires-else-outside : goal.with_sign-requires-else-outside
-with_sign-requires-else-outside c = omega (arith, room c.in_units-p.result c.nearest-count.result c.nearest-count.ensures c.in_units-p.ensures.1)
+pub signed-requires-else-outside : goal.signed-requires-else-outside
+signed-requires-else-outside c = omega (arith, room c.in_units-p.result c.nearest-count.result c.nearest-count.ensures c.in_units-p.ensures.1)
