@@ -65,7 +65,8 @@ module _ (s : RunningSum) where
   handed = record { word = (cut_of s.kept s.depth).word; rest = (rest_of s.kept s.depth).word }
 
   same_given : (o : Outcome) (v r : RoundBitWord) →
-      given o (record { word = v; rest = r }) ≡ given {A = CutAndRest} o (record { word = (o and_then round_bit_done v).word; rest = (o and_then round_bit_done r).word })
+      given o (record { word = v; rest = r }) ≡
+      given {A = CutAndRest} o (record { word = (o and_then round_bit_done v).word; rest = (o and_then round_bit_done r).word })
   same_given (Ok _) v r = refl
   same_given (Err c) v r = refl
 
