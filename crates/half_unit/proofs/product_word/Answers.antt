@@ -9,7 +9,7 @@ use mir.Facts.{to_z-of_z}
 use Rattle.words.specs.declared.Format.{Format}
 use Rattle.words.specs.Formats.{answer_check}
 use Rattle.words.specs.Outcomes.{Done}
-use Rattle.words.proofs.Given.{given_ok}
+use Rattle.words.proofs.Given.{ok_given}
 use Rattle.words.proofs.Laws.{Right, half_unit_right, machine}
 use Rattle.words.proofs.Formats.{answer_right}
 use Rattle.half_unit.specs.Arithmetic.{product_format}
@@ -30,4 +30,4 @@ pub multiplied-requires : goal.multiplied-requires
 multiplied-requires c =
     let p = half_unit_right c.args.x (sym c.in_ok-check.ensures) in
     let q = half_unit_right c.args.y (sym c.in_ok-check-2.ensures) in
-    rw (to_z-of_z (machine p), to_z-of_z (machine q)) (room _ _ _ _ p q (given_ok _ _ _ (sym c.in_ok-format.ensures)).0)
+    rw (to_z-of_z (machine p), to_z-of_z (machine q)) (room _ _ _ _ p q (ok_given _ _ _ c.in_ok-format.ensures).0)
