@@ -1,7 +1,5 @@
-use mathlib.Core.Path.{sym, ap, ◌∙◌}
+use mathlib.Core.Path.{sym}
 use lib.IntN.{ℤ}
-use mir.Syntax.{w64}
-use mir.Facts.{to_z-of_z}
 use borrow.Author.Rules.{rules}
 use Rattle.words.specs.HalfUnit.{half_unit_word}
 use Rattle.words.proofs.Given.{then_is}
