@@ -1,20 +1,22 @@
 -- The leftmost place in a text that a test holds of, and the tests of the two faults: what a turn of their searches asks, what a check finds,
 -- and what a passed check tells. Assumes nothing.
--- Proved here: `turned`, `leftmost_holds`, `leftmost_before`, `found_leftmost`, `not_found`, `leftmost_none`, `leftmost_at`,
--- `passed_more`, `strange_is`, `repeats_is`, `place_next`, `fault_free`, `free_fault`, `byte_finding`, `repeat_finding`, `format_place`,
--- `place_fits`, `read_right`.
+-- Proved here: `leftmost_holds`, `leftmost_before`, `found_leftmost`, `not_found`, `leftmost_none`, `leftmost_at`, `leftmost_found`,
+-- `leftmost_not_found`, `strange_position`, `repeats_is`, `fault_free`, `free_fault`, `searched`, `byte_finding`,
+-- `repeat_finding`, `format_place`, `place_fits`, `read_right`.
 use Rattle.std.specs.Prelude.{Ok, Err}
-use Prim.Native.Nat.{ℕ, ◌+◌, ◌-◌, ◌≤◌, ◌<◌}
-use native.Mathlib.Numerals.{add-one}
+use Prim.Native.Nat.{ℕ, ◌≤◌, ◌<◌}
 use native.Mathlib.Omega.{arith}
-use mathlib.Core.Path.{◌≡◌, refl, sym, ap}
+use mathlib.Core.Path.{◌≡◌, refl, sym, ap, ◌∙◌}
 use mathlib.Core.Bool.{Bool, true, false, not, cond, ◌&&◌, ◌||◌}
 use mathlib.Core.List.{List}
 use lib.Dec.{eqb}
 use lib.IntN.{ℤ}
 use lib.ListN.{length, get_or}
-use borrow.Author.Count.{below_more}
-use borrow.Author.Tests.{ltb-true, lt-ltb, not-true, not-false}
+use Rattle.std.specs.Prelude.{Option, Some, None, is_some}
+use Rattle.std.specs.Option.{unwrap_or}
+use Rattle.std.specs.List.{position_or_len}
+use Rattle.std.proofs.lemmas.List.Sums.{position_or_len_is}
+use borrow.Author.Tests.{ltb-true, lt-ltb, le-ltb, not-true, not-false}
 use Rattle.integers.proofs.Found.{none_found}
 use Rattle.integers.proofs.Lists.{first_bad_le, first_bad_most, first_bad_before, first_bad_at, first_bad_none, first_bad_fails}
 use Rattle.words.specs.Refusals.{number_of, refuse_for, ◌or_else◌, format_check}
@@ -28,13 +30,9 @@ use Rattle.words.specs.Outcomes.{Done, Refused}
 use Rattle.words.proofs.Laws.{RightFormat, right_format, refused_not_done, both_passed, passed, or-false}
 use Rattle.digit_text.specs.declared.Finding.{Finding}
 use Rattle.digit_text.specs.Digits.{none, sign_before}
-use Rattle.digit_text.specs.Reading.{strange, strange_at, repeats_at, leftmost, strange_place, repeat_place, found}
+use Rattle.digit_text.specs.Reading.{strange, strange_at, repeats_at, leftmost, strange_place, repeat_place, found, if_found}
 use Rattle.digit_text.specs.Reading.{fault_check, read_check, place_of, finding}
 use Rattle.digit_text.proofs.Scan.{get_d_any}
-
--- ---- a byte less is left: the next place
-pub turned : (n left : ℕ) → 0 < left → left ≤ n → n - (left - 1) ≡ n - left + 1
-turned n left h l = omega arith
 
 -- ---- the leftmost place that a test holds of
 module _ (t : List ℕ) (test : ℕ → Bool) where
@@ -62,29 +60,24 @@ module _ (t : List ℕ) (test : ℕ → Bool) where
   pub leftmost_at : (k : ℕ) → k < length t → ((j : ℕ) → j < k → test j ≡ false) → test k ≡ true → k ≡ leftmost t test
   leftmost_at k h p e = sym (first_bad_at (length t) k _ h (λ j l. ap not (p j l)) (ap not e))
 
-  -- a search by how many bytes are left: a turn more
-  pub passed_more : (left : ℕ) → 0 < left → left ≤ length t → ((j : ℕ) → j < length t - left → test j ≡ false) → test (length t - left) ≡ false →
-      (j : ℕ) → j < length t - (left - 1) → test j ≡ false
-  passed_more left h l p e = rw (turned (length t) left h l) (below_more (λ k. test k ≡ false) (length t - left) p e)
+  -- what such a search then answers, and what one that has passed them all
+  pub leftmost_found : (k : ℕ) → k < length t → ((j : ℕ) → j < k → test j ≡ false) → test k ≡ true → Some k ≡ if_found (leftmost t test) t
+  leftmost_found k h p e = rw (← leftmost_at k h p e, lt-ltb k (length t) h)
 
--- ---- the two tests at a byte that a search has read
-pub strange_is : (t : List ℕ) (k : ℕ) → k < length t → strange_at t k ≡ strange (get_or t k 0)
-unfolding strange_at
-strange_is t k h = ap strange (get_d_any t k none 0 h)
+  pub leftmost_not_found : ((k : ℕ) → k < length t → test k ≡ false) → None ≡ if_found (leftmost t test) t
+  leftmost_not_found p = rw (leftmost_none p, le-ltb (length t) (length t) (omega arith))
 
+-- ---- the first byte that is none of the three stands at the place of 13
+pub strange_position : (t : List ℕ) → position_or_len strange t ≡ strange_place t
+unfolding strange_place strange_at
+strange_position t =
+    position_or_len_is strange t (leftmost t (strange_at t)) none (leftmost_le t (strange_at t)) (leftmost_before t (strange_at t))
+    (λ h. leftmost_holds t (strange_at t) (lt-ltb _ _ h))
+
+-- ---- the test of 9 at a byte that a search has read
 pub repeats_is : (t : List ℕ) (k s : ℕ) → k < length t → s ≡ sign_before t k → repeats_at t k ≡ (not (eqb (get_or t k 0) none) && eqb (get_or t k 0) s)
 unfolding repeats_at
 repeats_is t k s h e = rw (get_d_any t k none 0 h, e)
-
--- the sign before the next place, by where it stands
-pub place_next : (t : List ℕ) (k p q : ℕ) → k < length t → get_or t p none ≡ sign_before t k → q ≡ cond (eqb (get_or t k 0) none) p k →
-    get_or t q none ≡ sign_before t (k + 1)
-unfolding sign_before
-place_next t k p q h e g = rw (g, add-one, get_d_any t k 0 none h) (go (eqb (get_or t k none) none))
-  where
-    go : (z : Bool) → get_or t (cond z p k) none ≡ cond z (sign_before t k) (get_or t k none)
-    go true = e
-    go false = refl
 
 -- ---- a text is faulty where either place is found, which is where its check refuses
 abbrev pub faulty : List ℕ → Bool
@@ -105,6 +98,16 @@ free_fault t e = let p = or-false (found (strange_place t) t) (found (repeat_pla
 -- ---- what a check finds, in the arms of its match: a fault of the first place, or what is found of the second
 abbrev pub fault_at : Cause → List ℕ → ℕ → Finding
 fault_at c t k = record { outcome = refuse_for c (found k t); place = cond (found k t) k 0 }
+
+-- so it is of the place that a search answers
+pub searched : (t : List ℕ) (c : Cause) (k : ℕ) (o : Option ℕ) (f : Finding) → f ≡ record { outcome = refuse_for c (is_some o); place = unwrap_or o 0 } →
+    o ≡ if_found k t → f ≡ fault_at c t k
+searched t c k o f e g = e ∙ rw g (go (found k t))
+  where
+    go : (b : Bool) → ◌≡◌ {A = Finding} (record { outcome = refuse_for c (is_some (cond b (Some k) None)); place = unwrap_or (cond b (Some k) None) 0 })
+        (record { outcome = refuse_for c b; place = cond b k 0 })
+    go true = refl
+    go false = refl
 
 pub byte_finding : (t : List ℕ) (c : Cause) → (fault_at Byte t (strange_place t)).outcome ≡ Refused c →
     fault_at Byte t (strange_place t) ≡ finding t (fault_check t)
@@ -151,7 +154,7 @@ place_fits t e = go (format_check f) refl
     f = format (length t) e
 
     go : (o : Outcome) → format_check f ≡ o → place_of t (o or_else fault_check t) ≤ 63
-    go (Ok tt) d = omega (arith, place_le t (fault_check t), (right_format f d).wide)
+    go (Ok _) d = omega (arith, place_le t (fault_check t), (right_format f d).wide)
     go (Err c) d = let none_told = rw d at (format_place t f) in rw none_told (omega arith)
 
 -- ---- what a passed check of a reading tells

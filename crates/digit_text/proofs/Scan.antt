@@ -1,21 +1,24 @@
 -- Facts about texts and their digits, for the functions and the laws: a digit's byte, what one byte more does to a text's value and to the
 -- sign before the next place, how large the value can be, and what a passed check of a writing tells. Assumes nothing.
 -- Proved here: `byte_plus`, `byte_minus`, `byte_none`, `digit_range`, `get_d_any`, `value_append`, `value_next`, `value_range`,
--- `value_small`, `sign_next`, `bit_le`, `round_le`, `write_right`, `write_room`.
+-- `value_small`, `sign_kept`, `sign_taken`, `lowest_plus`, `bit_le`, `round_le`, `write_right`, `write_room`.
 use Prim.Native.Nat.{ℕ, zero, suc, ◌+◌, ◌*◌, ◌-◌, ◌^◌, ◌≤◌, ◌<◌}
 use native.Mathlib.Nat.{not-suc-le-zero, le_of_suc-le-suc, lt_of_lt_of_le, mul-le-mul_right, pow-succ'}
 use native.Mathlib.Numerals.{add-one}
 use native.Mathlib.Omega.{arith}
 use mathlib.Core.Path.{◌≡◌, refl, sym, ◌∙◌}
-use mathlib.Core.Bool.{Bool, true, false, cond}
+use Rattle.std.specs.Prelude.{Option, Some, find, reverse}
+use Rattle.std.specs.Option.{option_eq}
+use Rattle.std.proofs.lemmas.List.{reverse-append}
+use mathlib.Core.Bool.{Bool, true, false, not, cond}
 use mathlib.Core.List.{List, [], ◌∷◌, ◌++◌}
 use lib.Dec.{eqb, ltb}
 use lib.IntN.{ℤ, pos, negsuc, nat_abs, ◌+ℤ◌, ◌*ℤ◌, zero-*ℤ, +ℤ_idl, +ℤ_assoc}
 use lib.Signed.{lt_z}
 use lib.ListN.{length, get_or, take, length-append}
 use lib.Pow.{pow-add, pow_mono}
-use lib.Seq.{take-suc}
-use borrow.Author.Tests.{ltb-false}
+use lib.Seq.{take-suc, take-length}
+use borrow.Author.Tests.{ltb-false, not-true, not-false}
 use Rattle.integers.proofs.Kit.{up, down, ints, plus_law, times_law, abs_law, one_zero, lt_true, lt_false}
 use Rattle.integers.proofs.Times.{plus_times, times_assoc}
 use Rattle.words.specs.Refusals.{refuse_for}
@@ -99,9 +102,33 @@ pub value_small : (t : List ℕ) (n : ℕ) → length t ≤ n → nat_abs (text_
 value_small t n h = lt_of_lt_of_le (value_range t) (pow_mono h)
 
 -- ---- the sign before the next place
-pub sign_next : (t : List ℕ) (k s r : ℕ) → k < length t → s ≡ sign_before t k → r ≡ cond (eqb (get_or t k 0) none) s (get_or t k 0) → r ≡ sign_before t (k + 1)
+pub sign_kept : (t : List ℕ) (k s : ℕ) → k < length t → s ≡ sign_before t k → not (eqb (get_or t k 0) none) ≡ false → s ≡ sign_before t (k + 1)
 unfolding sign_before
-sign_next t k s r h e g = g ∙ rw (e, add-one, get_d_any t k none 0 h)
+sign_kept t k s h e z = rw (add-one, get_d_any t k none 0 h, not-false _ z) e
+
+pub sign_taken : (t : List ℕ) (k : ℕ) → k < length t → not (eqb (get_or t k 0) none) ≡ true → get_or t k 0 ≡ sign_before t (k + 1)
+unfolding sign_before
+sign_taken t k h n = rw (add-one, get_d_any t k none 0 h, not-true _ n)
+
+-- ---- the sign before the end is the first from the right
+from_the_right : (t : List ℕ) (k : ℕ) → k ≤ length t →
+    option_eq eqb (find (λ b. not (eqb b none)) (reverse (take k t))) (Some plus) ≡ eqb (sign_before t k) plus
+unfolding sign_before
+from_the_right t zero h = refl
+from_the_right t (suc k) h =
+    rw (take-suc t k none h, reverse-append (take k t) (get_or t k none ∷ []))
+    (go (eqb (get_or t k none) none) (from_the_right t k (omega (arith, h))))
+  where
+    more : Option ℕ
+    more = find (λ b. not (eqb b none)) (reverse (take k t))
+
+    go : (z : Bool) → option_eq eqb more (Some plus) ≡ eqb (sign_before t k) plus →
+        option_eq eqb (cond (not z) (Some (get_or t k none)) more) (Some plus) ≡ eqb (cond z (sign_before t k) (get_or t k none)) plus
+    go true e = e
+    go false e = refl
+
+pub lowest_plus : (t : List ℕ) → option_eq eqb (find (λ b. not (eqb b none)) (reverse t)) (Some plus) ≡ eqb (sign_before t (length t)) plus
+lowest_plus t = rw take-length at (from_the_right t (length t) (omega arith))
 
 pub bit_le : (b : Bool) → cond b 1 0 ≤ 1
 bit_le true = omega arith

@@ -1,6 +1,6 @@
 -- Document 01, "Digit text": reading back; and document 02, Ask 3: "Say which digit is wrong."
 use Rattle.std.specs.Prelude.{ℕ, Bool, not, cond, ◌&&◌, ◌||◌, List, eqb, ltb, ℤ, pos, ◌-ℤ◌}
-use Rattle.std.specs.Prelude.{length, get_or}
+use Rattle.std.specs.Prelude.{length, get_or, Option, Some, None}
 use Rattle.integers.specs.Names.{first_bad}
 use Rattle.words.specs.declared.Cause.{Cause}
 use Rattle.words.specs.Outcomes.{Outcome}
@@ -43,6 +43,10 @@ repeat_place t = leftmost t (repeats_at t)
 -- a place is found where it lies inside the text
 abbrev pub found : ℕ → List ℕ → Bool
 found k t = ltb k (length t)
+
+-- a place that is found, or none
+abbrev pub if_found : ℕ → List ℕ → Option ℕ
+if_found k t = cond (found k t) (Some k) None
 
 -- "a byte outside the three is 13, repeated signs stay 9"; "13 stands directly before 9; a text
 -- with both faults gives 13", wherever they stand

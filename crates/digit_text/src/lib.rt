@@ -9,7 +9,7 @@
 // only a text without either makes a word.
 #![tactic(auto)]
 
-ghost use Rattle.std.specs.Prelude.{◌≡◌, not, cond, ◌&&◌, ◌≤◌, eqb, ltb, pos, ◌+ℤ◌, ◌-ℤ◌, ◌*ℤ◌, length, get_or};
+ghost use Rattle.std.specs.Prelude.{◌≡◌, not, ◌&&◌, ◌≤◌, eqb, is_some, unwrap_or, pos, ◌+ℤ◌, ◌-ℤ◌, ◌*ℤ◌, length, find, reverse};
 ghost use Rattle.integers.specs.Numbers.{digit};
 ghost use Rattle.integers.specs.Lists.{over};
 ghost use Rattle.words.specs.Words.{most_width};
@@ -17,7 +17,7 @@ ghost use Rattle.words.specs.Refusals.{refuse_for, format_check};
 ghost use Rattle.words.specs.Formats.{format};
 ghost use Rattle.words.specs.RoundBit.{round_bit_check, round_bit_refused};
 ghost use Rattle.digit_text.specs.Digits.{none, byte_of, digit_of, byte_at, text_value, write_check, write_of, buffer_of};
-ghost use Rattle.digit_text.specs.Reading.{strange, strange_place, repeat_place, fault_check, read_check, finding, read_round, read_word, read_of};
+ghost use Rattle.digit_text.specs.Reading.{strange, strange_place, repeat_place, if_found, fault_check, read_check, finding, read_round, read_word, read_of};
 
 use words::{Cause, Format, Outcome, RoundBit, RoundBitWord, WriteAnswer};
 
@@ -57,42 +57,41 @@ fn doubled(w: RoundBitWord) -> i64
     requires { round_bit_check w ≡ Outcome.Done }
     ensures { result ≡ (pos 2 *ℤ w.number.0) +ℤ pos w.number.1 }
 {
-    let a = w.number.0;
     let r: u8 = w.number.1;
-    2 * a + r as i64
+    2 * w.number.0 + i64::from(r)
 }
 
 // The digit in the rightmost column of the two rows: the top one less the bottom one.
 fn top_less_bottom(top: i64, bottom: i64) -> i64
     ensures { result ≡ pos (digit top 0) -ℤ pos (digit bottom 0) }
 {
-    integers::digit(top, 0) as i64 - integers::digit(bottom, 0) as i64
+    i64::from(integers::digit(top, 0)) - i64::from(integers::digit(bottom, 0))
 }
 
 // The byte of a digit.
+#[tactic(auto, unfolding(crate::specs::Digits::byte_of))]
 fn byte_of(d: i64) -> u8
     ensures { result ≡ byte_of d }
 {
-    if 0 < d {
-        return b'+';
+    match d.signum() {
+        1 => b'+',
+        -1 => b'-',
+        _ => b'0',
     }
-    if d < 0 { b'-' } else { b'0' }
 }
 
 // Fills the first n bytes; the most significant digit stands in the first. The picture is taken column by column
-// from the right: `columns` of them are still to be written, the others are struck off both rows.
+// from the right, and each is then struck off both rows.
 fn put_text(w: RoundBitWord, n: usize, text: &mut [u8])
     requires { (round_bit_check w ≡ Outcome.Done) × (n ≡ w.format.width) × (n ≤ length text.old) }
     ensures { text.new ≡ over n (byte_at w) text.old }
 {
     let mut top_row = doubled(w);
     let mut bottom_row = w.number.0;
-    let mut columns = n;
-    while 0 < columns {
-        text[columns - 1] = byte_of(top_less_bottom(top_row, bottom_row));
+    for column in 0..n {
+        text[n - 1 - column] = byte_of(top_less_bottom(top_row, bottom_row));
         top_row = integers::floor_by(top_row, 1);
         bottom_row = integers::floor_by(bottom_row, 1);
-        columns -= 1;
     }
 }
 
@@ -120,64 +119,45 @@ pub fn write(w: RoundBitWord, text: &mut [u8]) -> WriteAnswer
 fn strange(b: u8) -> bool
     ensures { result ≡ strange b }
 {
-    !((b == b'+') | (b == b'0') | (b == b'-'))
+    !matches!(b, b'+' | b'0' | b'-')
 }
 
-// The place of the leftmost byte that is none of the three, or the length. `left` bytes are still to be
-// looked at.
-fn strange_place(text: &[u8]) -> usize
-    ensures { result ≡ strange_place text.now }
+// The place of the leftmost byte that is none of the three.
+fn strange_place(text: &[u8]) -> Option<usize>
+    ensures { result ≡ if_found (strange_place text.now) text.now }
 {
-    let n = text.len();
-    let mut left = n;
-    while 0 < left {
-        if strange(text[n - left]) {
-            return n - left;
-        }
-        left -= 1;
-    }
-    n
+    text.iter().position(|b| strange(*b))
 }
 
-// The byte at this place, `0` past the end.
-fn byte_in(text: &[u8], k: usize) -> u8
-    ensures { result ≡ get_or text.now k none }
+// Does a byte of the three stand for 1 or -1?
+fn is_sign(b: u8) -> bool
+    ensures { result ≡ not (eqb b none) }
 {
-    if k < text.len() { text[k] } else { b'0' }
+    b != b'0'
 }
 
 // Is b a sign, and the sign before it again?
 fn repeats(b: u8, before: u8) -> bool
     ensures { result ≡ (not (eqb b none) && eqb b before) }
 {
-    !(b == b'0') & (b == before)
+    is_sign(b) && b == before
 }
 
-// Where the sign nearest before the byte behind k stands.
-fn place_after(b: u8, k: usize, before: usize) -> usize
-    ensures { result ≡ cond (eqb b none) before k }
+// The place of the leftmost sign that repeats the sign before it. `before` is that sign, with its place, and
+// a `0` while there is none.
+fn repeat_place(text: &[u8]) -> Option<usize>
+    ensures { result ≡ if_found (repeat_place text.now) text.now }
 {
-    if b == b'0' { before } else { k }
-}
-
-// The place of the leftmost sign that repeats the sign before it, or the length. `before` is where that
-// sign stands, past the end while there is none.
-fn repeat_place(text: &[u8]) -> usize
-    ensures { result ≡ repeat_place text.now }
-{
-    let n = text.len();
-    let mut before = n;
-    let mut left = n;
-    while 0 < left {
-        let k = n - left;
-        let b = text[k];
-        if repeats(b, byte_in(text, before)) {
-            return k;
+    let mut before = (0, b'0');
+    for (k, &b) in text.iter().enumerate() {
+        if repeats(b, before.1) {
+            return Some(k);
         }
-        before = place_after(b, k, before);
-        left -= 1;
+        if is_sign(b) {
+            before = (k, b);
+        }
     }
-    n
+    None
 }
 
 // What a check finds: its outcome, and the place that it tells, 0 where it tells none.
@@ -187,26 +167,13 @@ struct Finding {
     place: usize,
 }
 
-fn refused_at(c: Cause, place: usize) -> Finding
-    ensures { result ≡ record { outcome = Outcome.Refused c; place = place } }
+// The fault at the place that was found, and where none was done.
+fn fault_at(c: Cause, found: Option<usize>) -> Finding
+    ensures { result ≡ record { outcome = refuse_for c (is_some found); place = unwrap_or found 0 } }
 {
     Finding {
-        outcome: Outcome::Refused(c),
-        place: place,
-    }
-}
-
-// The fault at k, where k lies inside a text of n bytes, and else done.
-fn fault_at(c: Cause, k: usize, n: usize) -> Finding
-    ensures { result ≡ record { outcome = refuse_for c (ltb k n); place = cond (ltb k n) k 0 } }
-{
-    if k < n {
-        refused_at(c, k)
-    } else {
-        Finding {
-            outcome: Outcome::Done,
-            place: 0,
-        }
+        outcome: words::refuse_for(c, found.is_some()),
+        place: found.unwrap_or(0),
     }
 }
 
@@ -214,12 +181,11 @@ fn fault_at(c: Cause, k: usize, n: usize) -> Finding
 fn fault_check(text: &[u8]) -> Finding
     ensures { result ≡ finding text.now (fault_check text.now) }
 {
-    let n = text.len();
-    let byte = fault_at(Cause::Byte, strange_place(text), n);
+    let byte = fault_at(Cause::Byte, strange_place(text));
     let o = byte.outcome;
     match o {
         Outcome::Refused(c) => byte,
-        Outcome::Done => fault_at(Cause::DigitText, repeat_place(text), n),
+        Outcome::Done => fault_at(Cause::DigitText, repeat_place(text)),
     }
 }
 
@@ -245,6 +211,15 @@ fn format_check(n: usize, unit: i32) -> Outcome
     }
 }
 
+fn refused_at(c: Cause, place: usize) -> Finding
+    ensures { result ≡ record { outcome = Outcome.Refused c; place = place } }
+{
+    Finding {
+        outcome: Outcome::Refused(c),
+        place,
+    }
+}
+
 fn read_check(text: &[u8], unit: i32) -> Finding
     ensures { result ≡ finding text.now (read_check text.now unit) }
 {
@@ -256,13 +231,15 @@ fn read_check(text: &[u8], unit: i32) -> Finding
 }
 
 // 1, -1 or 0.
+#[tactic(auto, unfolding(crate::specs::Digits::digit_of))]
 fn digit_of(b: u8) -> i64
     ensures { result ≡ digit_of b }
 {
-    if b == b'+' {
-        return 1;
+    match b {
+        b'+' => 1,
+        b'-' => -1,
+        _ => 0,
     }
-    if b == b'-' { -1 } else { 0 }
 }
 
 // What the text is worth.
@@ -271,32 +248,24 @@ fn text_value(text: &[u8]) -> i64
     ensures { result ≡ text_value text.now }
 {
     let mut value = 0;
-    let mut k = 0;
-    while k < text.len() {
-        value = 2 * value + digit_of(text[k]);
-        k += 1;
+    for &b in text {
+        value = 2 * value + digit_of(b);
     }
     value
 }
 
-// The sign nearest before the next byte.
-fn sign_after(b: u8, before: u8) -> u8
-    ensures { result ≡ cond (eqb b none) before b }
+// The lowest nonzero digit.
+fn lowest_sign(text: &[u8]) -> Option<u8>
+    ensures { result ≡ find (λ b. not (eqb b none)) (reverse text.now) }
 {
-    if b == b'0' { before } else { b }
+    text.iter().rev().copied().find(|b| is_sign(*b))
 }
 
 // 1 where the lowest nonzero digit is `+`.
 fn read_round(text: &[u8]) -> u8
     ensures { result ≡ read_round text.now }
 {
-    let mut before = b'0';
-    let mut k = 0;
-    while k < text.len() {
-        before = sign_after(text[k], before);
-        k += 1;
-    }
-    if before == b'+' { 1 } else { 0 }
+    u8::from(lowest_sign(text) == Some(b'+'))
 }
 
 fn read_word(text: &[u8], unit: i32) -> RoundBitWord
@@ -304,13 +273,13 @@ fn read_word(text: &[u8], unit: i32) -> RoundBitWord
     ensures { result ≡ read_word text.now unit }
 {
     let round = read_round(text);
-    let number = text_value(text) - round as i64;
+    let number = text_value(text) - i64::from(round);
     let width = text.len() as u32;
     RoundBitWord {
         number: RoundBit(number, round),
         format: Format {
-            width: width,
-            unit: unit,
+            width,
+            unit,
         },
     }
 }
@@ -323,17 +292,17 @@ fn read_refused(c: Cause, place: u32) -> ReadAnswer
     ReadAnswer {
         outcome: Outcome::Refused(c),
         word: blank,
-        place: place,
+        place,
     }
 }
 
-fn read_done(w: RoundBitWord, place: u32) -> ReadAnswer
-    ensures { result ≡ record { outcome = Outcome.Done; word = w; place = place } }
+fn read_done(w: RoundBitWord) -> ReadAnswer
+    ensures { result ≡ record { outcome = Outcome.Done; word = w; place = 0 } }
 {
     ReadAnswer {
         outcome: Outcome::Done,
         word: w,
-        place: place,
+        place: 0,
     }
 }
 
@@ -346,6 +315,6 @@ pub fn read(text: &[u8], unit: i32) -> ReadAnswer
     let place = found.place as u32;
     match o {
         Outcome::Refused(c) => read_refused(c, place),
-        Outcome::Done => read_done(read_word(text, unit), place),
+        Outcome::Done => read_done(read_word(text, unit)),
     }
 }

@@ -34,11 +34,11 @@ in_units-p-requires c = asked c.args.bits c.args.f (search rules) (sym c.in_ok-i
 room : (p : Parts) (n : ℕ) → n ≡ nearest_of p → p.whole + p.half < 2 ^ 63 → (n < 2 ^ 63) × (p.whole < 2 ^ 63)
 room p n e h = (rw e (nearest-small p h), omega (arith, h))
 
-pub with_sign-requires : goal.with_sign-requires
-with_sign-requires c = omega (arith, room c.in_units-p.result c.nearest-count.result c.nearest-count.ensures c.in_units-p.ensures.1)
+pub signed-requires : goal.signed-requires
+signed-requires c = omega (arith, room c.in_units-p.result c.nearest-count.result c.nearest-count.ensures c.in_units-p.ensures.1)
 
-pub with_sign-requires-2 : goal.with_sign-requires-2
-with_sign-requires-2 c = omega (arith, room c.in_units-p.result c.nearest-count.result c.nearest-count.ensures c.in_units-p.ensures.1)
+pub signed-requires-2 : goal.signed-requires-2
+signed-requires-2 c = omega (arith, room c.in_units-p.result c.nearest-count.result c.nearest-count.ensures c.in_units-p.ensures.1)
 
 exact : (bits : ℕ) (f : Format) (p : Parts) (n : ℕ) (x : ℤ) (r : Result PlainWord Cause) → import_check bits f ≡ Done → SFits w32 f.unit →
     p ≡ parts_of (in_units (sample bits) (to_z w32 (of_z w32 f.unit))) → n ≡ nearest_of p → x ≡ signed p.negative n →
@@ -55,12 +55,12 @@ pub returns-in_err-refuse_for : goal.returns-in_err-refuse_for
 returns-in_err-refuse_for c =
     let p = c.in_units-p in
     let n = c.nearest-count in
-    let x = c.with_sign in
+    let x = c.signed in
     exact c.args.bits c.args.f p.result n.result x.result _ (sym c.in_ok-import_check.ensures) (search rules) p.ensures.0 n.ensures x.ensures (search rules)
 
 pub returns : goal.returns
 returns c =
     let p = c.in_units-p in
     let n = c.nearest-count in
-    let x = c.with_sign in
+    let x = c.signed in
     exact c.args.bits c.args.f p.result n.result x.result _ (sym c.in_ok-import_check.ensures) (search rules) p.ensures.0 n.ensures x.ensures (search rules)

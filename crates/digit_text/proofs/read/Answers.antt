@@ -7,8 +7,7 @@ use mir.Facts.{to_z-of_z}
 use Rattle.words.specs.RoundBit.{round_bit_done, round_bit_refused}
 use Rattle.words.specs.declared.Cause.{Cause}
 use Rattle.words.specs.Outcomes.{Outcome}
-use Rattle.words.specs.Outcomes.{Done, Refused}
-use Rattle.words.specs.Kinds.{RoundBitWord}
+use Rattle.words.specs.Outcomes.{Refused}
 use Rattle.words.proofs.Arms.{refusing, answering}
 use Rattle.digit_text.specs.declared.Finding.{Finding}
 use Rattle.digit_text.specs.declared.ReadAnswer.{ReadAnswer}
@@ -16,12 +15,9 @@ use Rattle.digit_text.specs.Reading.{read_check, place_of, finding, read_word, r
 use Rattle.digit_text.proofs.Places.{place_fits}
 use Rattle.digit_text.proofs.read.Goals as goal
 
--- the two answers, by their place
+-- the refusal, by its place
 abbrev refused_at : Cause → ℕ → ReadAnswer
 refused_at c k = record { outcome = Refused c; word = (round_bit_refused c).word; place = k }
-
-abbrev done_at : RoundBitWord → ℕ → ReadAnswer
-done_at w k = record { outcome = Done; word = w; place = k }
 
 -- what the check found: an outcome, and the place that this outcome tells
 module _ (f : Finding) (t : List ℕ) (e : ℤ) (checked : f ≡ finding t (read_check t e)) where
@@ -56,7 +52,5 @@ returns-in-Done c =
     let t = c.args.text.now in
     let e = c.args.unit in
     let checked : c.read_check-found.result ≡ finding t (read_check t e) = c.read_check-found.ensures ∙ rw (to_z-of_z c.ranges.unit) in
-    let here : c.read_check-found.result.place ≡ 0 = told _ t e checked Done c.in-Done.is in
     let made : c.read_word.result ≡ read_word t e = c.read_word.ensures ∙ rw (to_z-of_z c.ranges.unit) in
-    let answered = c.read_done.ensures ∙ ap (done_at _) here in
-    answering (read_refused t) (λ w. read_answer (round_bit_done w)) _ _ _ _ _ (outcome _ t e checked) c.in-Done.is made answered
+    answering (read_refused t) (λ w. read_answer (round_bit_done w)) _ _ _ _ _ (outcome _ t e checked) c.in-Done.is made c.read_done.ensures

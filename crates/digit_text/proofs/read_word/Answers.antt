@@ -4,9 +4,9 @@ use mathlib.Core.Path.{◌≡◌}
 use native.Mathlib.Omega.{arith}
 use lib.IntN.{ℤ, pos, ◌-ℤ◌}
 use lib.ListN.{length}
-use mir.Facts.{to_z-of_z, to_z_pos}
+use mir.Facts.{to_z-of_z}
 use mir.Syntax.{w64}
-use mir.Val.{SFits, to_z}
+use mir.Val.{SFits}
 use Rattle.integers.proofs.Kit.{ints, abs_law, minus_law}
 use Rattle.words.specs.Outcomes.{Done}
 use Rattle.digit_text.specs.Digits.{text_value}
@@ -19,15 +19,12 @@ use Rattle.digit_text.proofs.read_word.Goals as goal
 short : (t : List ℕ) (e : ℤ) → read_check t e ≡ Done → length t ≤ 63
 short t e d = (read_right t e d).0.wide
 
--- the value less the round bit, and the round bit as an i64
+-- the value less the round bit
 less : (t : List ℕ) → length t ≤ 63 → SFits w64 (text_value t -ℤ pos (read_round t))
 less t h =
     let v = text_value t in
     let r = read_round t in
     omega (ints, value_small t 63 h, round_le t, abs_law v, minus_law v (pos r))
-
-bit : (t : List ℕ) (r : ℕ) → r ≡ read_round t → to_z w64 r ≡ pos (read_round t)
-bit t r e = rw e (to_z_pos w64 (omega (arith, round_le t)))
 
 pub text_value-requires : goal.text_value-requires
 text_value-requires c = short _ _ c.requires
@@ -36,7 +33,8 @@ pub overflow_sub-number : goal.overflow_sub-number
 overflow_sub-number c =
     let t = c.args.text.now in
     let f : SFits w64 c.text_value.result = search rules in
-    rw (to_z-of_z f, c.text_value.ensures, bit t _ c.read_round-round.ensures) (less t (short t _ c.requires))
+    let g : SFits w64 c.from.result = search rules in
+    rw (to_z-of_z f, to_z-of_z g, c.text_value.ensures, c.from.ensures, c.read_round-round.ensures) (less t (short t _ c.requires))
 
 pub overflow_cast-width : goal.overflow_cast-width
 overflow_cast-width c = omega (arith, short _ _ c.requires)
@@ -45,11 +43,13 @@ pub returns : goal.returns
 unfolding read_word
 returns c =
     let f : SFits w64 c.text_value.result = search rules in
+    let g : SFits w64 c.from.result = search rules in
     rw (
       to_z-of_z (overflow_sub-number c),
       to_z-of_z f,
+      to_z-of_z g,
       c.text_value.ensures,
-      bit c.args.text.now _ c.read_round-round.ensures,
+      c.from.ensures,
       c.read_round-round.ensures,
       to_z-of_z c.ranges.unit,
     )

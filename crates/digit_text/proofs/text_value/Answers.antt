@@ -13,9 +13,9 @@ use Rattle.digit_text.proofs.Scan.{digit_range, value_next, value_small}
 use borrow.Author.Rules.{rules}
 use Rattle.digit_text.proofs.text_value.Goals as goal
 
-pub loop-k-init : goal.loop-k-init
+pub loop-b-init : goal.loop-b-init
 unfolding text_value
-loop-k-init c = (search rules, refl)
+loop-b-init c = refl
 
 -- the value of the bytes passed, doubled, and with the next digit
 module _ (t : List ℕ) (k : ℕ) (v : ℤ) (short : length t ≤ 63) (inside : k < length t) (e : v ≡ text_value (take k t)) where
@@ -29,28 +29,26 @@ module _ (t : List ℕ) (k : ℕ) (v : ℤ) (short : length t ≤ 63) (inside : 
   next d h = omega (ints, small, abs_law v, abs_law d, times_law (pos 2) v, plus_law (pos 2 *ℤ v) d)
 
 pub overflow_mul-value : goal.overflow_mul-value
-overflow_mul-value c = twice c.args.text.now c.loop-k.k _ c.requires c.loop-k-test.true c.loop-k.invariant.1
+overflow_mul-value c = twice c.args.text.now c.loop-b.b-index _ c.requires c.loop-b-test.true c.loop-b.invariant
 
 pub overflow_add-value : goal.overflow_add-value
 overflow_add-value c =
     let t = c.args.text.now in
-    let k = c.loop-k.k in
+    let k = c.loop-b.b-index in
     let f : SFits w64 c.digit_of.result = search rules in
-    rw (to_z-of_z (twice t k _ c.requires c.loop-k-test.true c.loop-k.invariant.1), to_z-of_z f, c.digit_of.ensures)
-    (next t k _ c.requires c.loop-k-test.true c.loop-k.invariant.1 _ (digit_range _))
+    rw (to_z-of_z (twice t k _ c.requires c.loop-b-test.true c.loop-b.invariant), to_z-of_z f, c.digit_of.ensures)
+    (next t k _ c.requires c.loop-b-test.true c.loop-b.invariant _ (digit_range _))
 
-pub loop-k-preserved : goal.loop-k-preserved
-loop-k-preserved c =
+pub loop-b-preserved : goal.loop-b-preserved
+loop-b-preserved c =
     let t = c.args.text.now in
-    let k = c.loop-k.k in
-    let f : SFits w64 c.digit_of.result = search rules in (
-      search rules,
-      rw (
-        to_z-of_z (overflow_add-value c),
-        to_z-of_z (twice t k _ c.requires c.loop-k-test.true c.loop-k.invariant.1),
-        to_z-of_z f,
-        c.digit_of.ensures,
-        c.loop-k.invariant.1,
-      )
-          (sym (value_next t k c.loop-k-test.true)),
+    let k = c.loop-b.b-index in
+    let f : SFits w64 c.digit_of.result = search rules in
+    rw (
+      to_z-of_z (overflow_add-value c),
+      to_z-of_z (twice t k _ c.requires c.loop-b-test.true c.loop-b.invariant),
+      to_z-of_z f,
+      c.digit_of.ensures,
+      c.loop-b.invariant,
     )
+    (sym (value_next t k c.loop-b-test.true))

@@ -7,15 +7,12 @@ overflow_add-result c =
     let s = sum_room c.args.m c.args.n c.requires.0 c.requires.1 c.requires.2 in
     rw (to_z-of_z s.first, to_z-of_z s.second) s.two
 
-pub overflow_cast-result : goal.overflow_cast-result
-overflow_cast-result c = (sum_room c.args.m c.args.n c.requires.0 c.requires.1 c.requires.2).carry
-
 pub overflow_add-result-2 : goal.overflow_add-result-2
 overflow_add-result-2 c =
     let s = sum_room c.args.m c.args.n c.requires.0 c.requires.1 c.requires.2 in
-    rw (to_z-of_z s.first, to_z-of_z s.second, to_z-of_z s.two, to_z-of_z s.carry) s.all
+    rw (c.from.ensures, to_z-of_z s.first, to_z-of_z s.second, to_z-of_z s.two, to_z-of_z s.carry) s.all
 
 pub returns : goal.returns
 returns c =
     let s = sum_room c.args.m c.args.n c.requires.0 c.requires.1 c.requires.2 in
-    rw (to_z-of_z s.first, to_z-of_z s.second, to_z-of_z s.two, to_z-of_z s.carry, to_z-of_z s.all)
+    rw (c.from.ensures, to_z-of_z s.first, to_z-of_z s.second, to_z-of_z s.two, to_z-of_z s.carry, to_z-of_z s.all)

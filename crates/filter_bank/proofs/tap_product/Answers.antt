@@ -17,11 +17,11 @@ overflow_sub-result c =
     let p = c.requires in
     let t = worth c.args.t c.worth.result (search rules) (record { sfits = c.worth.type_inv }) c.worth.ensures in
     let s = worth c.args.s c.worth-2.result (search rules) (record { sfits = c.worth-2.type_inv }) c.worth-2.ensures in
-    number_room c.args.t c.args.s p.0 p.1 p.2 p.3 _ _ _ t s c.product_bit-bit.ensures
+    rw c.from.ensures (number_room c.args.t c.args.s p.0 p.1 p.2 p.3 _ _ _ t s c.product_bit-bit.ensures)
 
 pub returns : goal.returns
 returns c =
     let p = c.requires in
     let t = worth c.args.t c.worth.result (search rules) (record { sfits = c.worth.type_inv }) c.worth.ensures in
     let s = worth c.args.s c.worth-2.result (search rules) (record { sfits = c.worth-2.type_inv }) c.worth-2.ensures in
-    product_made c.args.t c.args.s p.0 p.1 p.2 p.3 _ _ _ t s c.product_bit-bit.ensures
+    rw c.from.ensures (product_made c.args.t c.args.s p.0 p.1 p.2 p.3 _ _ _ t s c.product_bit-bit.ensures)

@@ -14,7 +14,7 @@ use Rattle.binary64.specs.Import.{sample, quotient, in_units}
 use Rattle.binary64.specs.Parts.{parts_of}
 use Rattle.binary64.proofs.Split.{half_le, raised_parts}
 use Rattle.binary64.proofs.InUnits.{parts_right, parts_left}
-use Rattle.binary64.proofs.in_units.Goals as goal
+use Rattle.binary64.proofs.Parts.in_units.Goals as goal
 
 -- what was decoded, and the depth, which is the unit's and above 0
 module _ (bits : ℕ) (unit : ℤ) (x : Scaled) (d : ℕ) where
@@ -32,9 +32,8 @@ module _ (bits : ℕ) (unit : ℤ) (x : Scaled) (d : ℕ) where
 pub raised-requires : goal.raised-requires
 raised-requires c =
     let told = rw (to_z-of_z c.ranges.unit) at c.depth-d.ensures in
-    let found = c.decoded-x.ensures.significand_bound in
     let above = deep c.args.bits c.args.unit c.decoded-x.result c.depth-d.result told c.requires.1 in
-    (found.1 (omega (arith, above, c.if-x-d.false)), found.0)
+    c.decoded-x.result.led (omega (arith, above, c.if-x-d.false))
 
 pub returns-then-x-d : goal.returns-then-x-d
 returns-then-x-d c =
@@ -42,7 +41,7 @@ returns-then-x-d c =
     let x = c.decoded-x.result in
     let half = ap (λ (p : Parts). p.half) c.cut.ensures.0 in
     let most = half_le (quotient x.negative x.significand (2 ^ (c.depth-d.result - x.places))) in (
-      c.cut.ensures.0 ∙ right c.args.bits c.args.unit x c.depth-d.result c.decoded-x.ensures.has_value told c.if-x-d.true,
+      c.cut.ensures.0 ∙ right c.args.bits c.args.unit x c.depth-d.result c.decoded-x.ensures told c.if-x-d.true,
       omega (arith, c.cut.ensures.1, half, most),
     )
 
@@ -51,6 +50,6 @@ returns-else-x-d c =
     let told = rw (to_z-of_z c.ranges.unit) at c.depth-d.ensures in
     let x = c.decoded-x.result in
     let is = c.raised.ensures ∙ raised_parts x.negative (x.significand * 2 ^ (x.places - c.depth-d.result)) in (
-      c.raised.ensures ∙ left c.args.bits c.args.unit x c.depth-d.result c.decoded-x.ensures.has_value told (omega (arith, c.if-x-d.false)),
+      c.raised.ensures ∙ left c.args.bits c.args.unit x c.depth-d.result c.decoded-x.ensures told (omega (arith, c.if-x-d.false)),
       omega (arith, ap (λ (p : Parts). p.whole) is, ap (λ (p : Parts). p.half) is),
     )
