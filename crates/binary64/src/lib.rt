@@ -17,15 +17,18 @@ ghost use Rattle.std.specs.Float.{binary64};
 ghost use Rattle.std.specs.Float.Ieee.{low, hid, top};
 ghost use Rattle.std.specs.Float.Ieee.Exact.{HasValue};
 ghost use Rattle.std.specs.Float.Ieee.Scale.{finite};
-ghost use Rattle.words.specs.Words.{most_unit};
+ghost use Rattle.words.specs.Outcomes.{given, ◌then◌};
+ghost use Rattle.words.specs.Words.{most_unit, outside};
+ghost use Rattle.words.specs.Refusals.{refuse};
 ghost use Rattle.words.specs.Formats.{format};
-ghost use Rattle.words.specs.Plain.{plain_word, plain_fitted};
-ghost use Rattle.words.specs.HalfUnit.{half_unit_word, half_unit_fitted};
+ghost use Rattle.words.specs.Plain.{plain_word};
+ghost use Rattle.words.specs.RoundBit.{round_bit_word};
+ghost use Rattle.words.specs.HalfUnit.{half_unit_word};
 ghost use Rattle.binary64.specs.Import.{sample, signed, quotient, in_units, whole_count, half_odd_count, import_check, to_plain_of, to_round_bit_of, to_half_unit_of};
 
 use words::{
     Cause, Format, HalfUnit, HalfUnitAnswer, HalfUnitWord, Outcome, Plain, PlainAnswer, PlainWord,
-    RoundBit, RoundBitAnswer, RoundBitWord,
+    RoundBit, RoundBitAnswer, RoundBitWord, Word,
 };
 
 // The bits from the right: 52 digits of the significand, 11 of the exponent's field, the sign.
@@ -197,75 +200,68 @@ impl Parts {
     }
 }
 
+#[tactic(auto, unfolding(crate::specs::Import::import_check))]
 fn import_check(bits: u64, f: Format) -> Outcome
     ensures { result ≡ import_check bits f }
 {
-    words::or_else(
-        words::format_check(f),
-        words::refuse_for(Cause::NotFinite, !is_finite(bits)),
-    )
+    f.check()?;
+    words::refuse_for(Cause::NotFinite, !is_finite(bits))
 }
 
 // The sign is given twice, so that a test of another number than the answer's can be tried in place.
-fn plain_counted(bits: u64, f: Format) -> PlainAnswer
-    requires { import_check bits f ≡ Outcome.Done }
-    ensures { result ≡ plain_fitted (plain_word (whole_count bits f.unit) f) }
+fn plain_counted(bits: u64, f: Format) -> Result<PlainWord, Cause>
+    ensures { result ≡ (import_check bits f then given (refuse 8 (outside f (whole_count bits f.unit))) (plain_word (whole_count bits f.unit) f)) }
 {
+    import_check(bits, f)?;
     let p = Parts::in_units(bits, f.unit);
     let count = p.nearest();
-    if words::outside(f, p.signed(count)) {
-        words::plain_refused(Cause::NumberPast)
-    } else {
-        words::plain_done(PlainWord {
-            number: Plain(p.signed(count)),
-            format: f,
-        })
-    }
-}
-
-pub fn to_plain(bits: u64, width: u32, unit: i32) -> PlainAnswer
-    ensures { result ≡ to_plain_of bits (format width unit) }
-{
-    let f = Format { width, unit };
-    match import_check(bits, f) {
-        Outcome::Refused(c) => words::plain_refused(c),
-        Outcome::Done => plain_counted(bits, f),
-    }
-}
-
-// The plain word with round bit 0; the blank one stays blank.
-pub fn to_round_bit(bits: u64, width: u32, unit: i32) -> RoundBitAnswer
-    ensures { result ≡ to_round_bit_of bits (format width unit) }
-{
-    let a = to_plain(bits, width, unit);
-    let o = a.outcome;
-    let f = a.word.format;
-    RoundBitAnswer {
-        outcome: o,
-        word: RoundBitWord {
-            number: RoundBit(a.word.number.0, 0),
-            format: f,
-        },
-    }
-}
-
-fn half_unit_counted(bits: u64, f: Format) -> HalfUnitAnswer
-    requires { import_check bits f ≡ Outcome.Done }
-    ensures { result ≡ half_unit_fitted (half_unit_word (half_odd_count bits f.unit) f) }
-{
-    let w = Parts::in_units(bits, f.unit).half_odd();
-    words::half_unit_fitted(HalfUnitWord {
-        number: HalfUnit(w),
+    let past = f.outside(p.signed(count));
+    words::refuse_for(Cause::NumberPast, past)?;
+    Ok(Word {
+        number: Plain(p.signed(count)),
         format: f,
     })
 }
 
+#[tactic(auto, unfolding(words::specs::Plain::plain_fitted), using(words::proofs::Given::answer_fitted))]
+pub fn to_plain(bits: u64, width: u32, unit: i32) -> PlainAnswer
+    ensures { result ≡ to_plain_of bits (format width unit) }
+{
+    plain_counted(bits, Format { width, unit }).into()
+}
+
+// The plain word with round bit 0.
+fn round_bit_counted(bits: u64, f: Format) -> Result<RoundBitWord, Cause>
+    ensures { result ≡ (import_check bits f then given (refuse 8 (outside f (whole_count bits f.unit))) (round_bit_word (whole_count bits f.unit) 0 f)) }
+{
+    let plain = plain_counted(bits, f)?;
+    Ok(Word {
+        number: RoundBit(plain.number.0, 0),
+        format: plain.format,
+    })
+}
+
+#[tactic(auto, unfolding(words::specs::RoundBit::round_bit_fitted), using(words::proofs::Given::answer_fitted))]
+pub fn to_round_bit(bits: u64, width: u32, unit: i32) -> RoundBitAnswer
+    ensures { result ≡ to_round_bit_of bits (format width unit) }
+{
+    round_bit_counted(bits, Format { width, unit }).into()
+}
+
+fn half_unit_counted(bits: u64, f: Format) -> Result<HalfUnitWord, Cause>
+    ensures { result ≡ (import_check bits f then given (refuse 8 (outside f (half_odd_count bits f.unit))) (half_unit_word (half_odd_count bits f.unit) f)) }
+{
+    import_check(bits, f)?;
+    Word {
+        number: HalfUnit(Parts::in_units(bits, f.unit).half_odd()),
+        format: f,
+    }
+    .fitted()
+}
+
+#[tactic(auto, unfolding(words::specs::HalfUnit::half_unit_fitted), using(words::proofs::Given::answer_fitted))]
 pub fn to_half_unit(bits: u64, width: u32, unit: i32) -> HalfUnitAnswer
     ensures { result ≡ to_half_unit_of bits (format width unit) }
 {
-    let f = Format { width, unit };
-    match import_check(bits, f) {
-        Outcome::Refused(c) => words::half_unit_refused(c),
-        Outcome::Done => half_unit_counted(bits, f),
-    }
+    half_unit_counted(bits, Format { width, unit }).into()
 }

@@ -16,7 +16,7 @@ use lib.Ieee.Scale.{finite}
 use Rattle.words.specs.declared.Cause.{Cause}
 use Rattle.words.specs.declared.Cause.TheVariants.{NumberPast}
 use Rattle.words.specs.Outcomes.{Outcome}
-use Rattle.words.specs.Outcomes.{Done, Refused}
+use Rattle.words.specs.Outcomes.{Done}
 use Rattle.words.specs.declared.Format.{Format}
 use Rattle.words.specs.Words.{Kind, value, outside}
 use Rattle.words.specs.Words.Kind.{plain, round_bit, half_unit}
