@@ -10,11 +10,13 @@ use lib.Dec.{eqb, leb}
 use lib.IntN.{ℤ, pos}
 use lib.Signed.{mag}
 use borrow.Author.Tests.{le-ltb, leb-true, leb-false}
+use Rattle.std.specs.Prelude.{Result}
 use Rattle.integers.specs.Numbers.{fits_width, turned, cleared}
 use Rattle.integers.proofs.Width.{fits_is, fits_more, fits_turned}
 use Rattle.integers.proofs.Halves.{fits_cleared}
 use Rattle.words.specs.Words.{outside}
-use Rattle.words.specs.Refusals.{refuse, after}
+use Rattle.words.specs.Outcomes.{given}
+use Rattle.words.specs.Refusals.{refuse}
 use Rattle.words.specs.declared.Cause.{Cause}
 use Rattle.words.specs.declared.Format.{Format}
 use Rattle.binary64.specs.declared.Parts.{Parts}
@@ -99,19 +101,19 @@ module _ (q : Quotient) (h : 0 < q.below) where
       (λ l. neither (number_large (eqb (q.above % q.below) 0) too_many (omega arith)) (number_large (eqb (q.above % q.below) 0) w (omega arith))))
 
 -- ---- in a format of at most 63 digits both are refused, or they are the same word
-pub fitted_stands : {A : Type 0} (refused : Cause → A) (done : ℤ → A) (f : Format) {x z : ℤ} → f.width ≤ 63 → Stands x z →
-    after refused (refuse 8 (outside f x)) (done x) ≡ after refused (refuse 8 (outside f z)) (done z)
-fitted_stands {A} refused done f {x} {z} l s = go (fits_width z f.width) refl (fits_width x f.width) refl
+pub fitted_stands : {A : Type 0} (word : ℤ → A) (f : Format) {x z : ℤ} → f.width ≤ 63 → Stands x z →
+    given (refuse 8 (outside f x)) (word x) ≡ given (refuse 8 (outside f z)) (word z)
+fitted_stands word f {x} {z} l s = go (fits_width z f.width) refl (fits_width x f.width) refl
   where
     go : (b : Bool) → fits_width z f.width ≡ b → (c : Bool) → fits_width x f.width ≡ c →
-        after refused (refuse 8 (outside f x)) (done x) ≡ after refused (refuse 8 (outside f z)) (done z)
+        given (refuse 8 (outside f x)) (word x) ≡ given (refuse 8 (outside f z)) (word z)
     go true e c g = rw (s.1 (fits_more z l e))
     go false e true g = rw (s.1 (sym s.0 ∙ fits_more x l g))
     go false e false g = rw (e, g)
 
--- so an answer by the number that the code makes of the parts is the answer by the exact one
-pub fitted_answer : {A : Type 0} (refused : Cause → A) (done : ℤ → A) (number : Parts → ℤ) (count : Quotient → ℤ) →
-    ((q : Quotient) → 0 < q.below → Stands (number (parts_of q)) (count q)) → (f : Format) (q : Quotient) (p : Parts) (x : ℤ) (r : A) →
-    f.width ≤ 63 → 0 < q.below → p ≡ parts_of q → x ≡ number p → r ≡ after refused (refuse 8 (outside f x)) (done x) →
-    r ≡ after refused (refuse 8 (outside f (count q))) (done (count q))
-fitted_answer refused done number count stands f q p x r l h e g a = a ∙ fitted_stands refused done f l (rw (g, e) (stands q h))
+-- so what is made of the number that the code makes of the parts is what is made of the exact one
+pub fitted_answer : {A : Type 0} (word : ℤ → A) (number : Parts → ℤ) (count : Quotient → ℤ) →
+    ((q : Quotient) → 0 < q.below → Stands (number (parts_of q)) (count q)) → (f : Format) (q : Quotient) (p : Parts) (x : ℤ) (r : Result A Cause) →
+    f.width ≤ 63 → 0 < q.below → p ≡ parts_of q → x ≡ number p → r ≡ given (refuse 8 (outside f x)) (word x) →
+    r ≡ given (refuse 8 (outside f (count q))) (word (count q))
+fitted_answer word number count stands f q p x r l h e g a = a ∙ fitted_stands word f l (rw (g, e) (stands q h))

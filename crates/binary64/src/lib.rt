@@ -17,38 +17,127 @@ ghost use Rattle.std.specs.Float.{binary64};
 ghost use Rattle.std.specs.Float.Ieee.{low, hid, top};
 ghost use Rattle.std.specs.Float.Ieee.Exact.{HasValue};
 ghost use Rattle.std.specs.Float.Ieee.Scale.{finite};
-ghost use Rattle.words.specs.Words.{most_unit};
+ghost use Rattle.words.specs.Outcomes.{given, ◌then◌};
+ghost use Rattle.words.specs.Words.{most_unit, outside};
+ghost use Rattle.words.specs.Refusals.{refuse};
 ghost use Rattle.words.specs.Formats.{format};
-ghost use Rattle.words.specs.Plain.{plain_word, plain_fitted};
-ghost use Rattle.words.specs.HalfUnit.{half_unit_word, half_unit_fitted};
+ghost use Rattle.words.specs.Plain.{plain_word};
+ghost use Rattle.words.specs.RoundBit.{round_bit_word};
+ghost use Rattle.words.specs.HalfUnit.{half_unit_word};
 ghost use Rattle.binary64.specs.Import.{sample, signed, quotient, in_units, whole_count, half_odd_count, import_check, to_plain_of, to_round_bit_of, to_half_unit_of};
-ghost use Rattle.binary64.specs.Parts.{parts_of, nearest_of, half_odd_of};
 
 use words::{
     Cause, Format, HalfUnit, HalfUnitAnswer, HalfUnitWord, Outcome, Plain, PlainAnswer, PlainWord,
-    RoundBit, RoundBitAnswer, RoundBitWord,
+    RoundBit, RoundBitAnswer, RoundBitWord, Word,
 };
 
 // The bits from the right: 52 digits of the significand, 11 of the exponent's field, the sign.
-const SIGN: u64 = 9223372036854775808;
+const SIGN: u64 = 1 << 63;
 
-const LEAD: u64 = 4503599627370496;
+const LEAD: u64 = 1 << 52;
 
 // The field of an infinity or a not-a-number.
-const ONES: u64 = 2047;
+const ONES: u64 = (1 << 11) - 1;
 
 // The smallest number above zero is 2^-SMALLEST.
 const SMALLEST: i64 = 1074;
 
 // More units than any word holds, with either sign.
-const TOO_MANY: u64 = 9223372036854775807;
+const TOO_MANY: u64 = i64::MAX as u64;
 
-// A finite number: significand * 2^places of the smallest.
+// The exponent's field.
+fn field(bits: u64) -> u64
+    ensures { result ≡ bits % top binary64 / hid binary64 }
+{
+    bits % SIGN / LEAD
+}
+
+fn is_finite(bits: u64) -> bool
+    ensures { result ≡ finite (sample bits) }
+{
+    field(bits) != ONES
+}
+
+// A finite number: significand * 2^places of the smallest. Only a number without places may lack its leading
+// digit.
 #[derive(Clone, Copy)]
 struct Scaled {
     negative: bool,
     significand: u64,
     places: u64,
+    ghost short: { significand < 2 ^ 53 },
+    ghost led: { 0 < places → 2 ^ 52 ≤ significand },
+}
+
+impl Scaled {
+    ghost use Rattle.binary64.specs.Parts.{parts_of};
+
+    // A field of 0 has no leading digit, and the places of a field of 1.
+    fn decoded(bits: u64) -> Scaled
+        requires { finite (sample bits) ≡ true }
+        ensures { HasValue (sample bits) result.negative (result.significand * 2 ^ result.places) (2 ^ low binary64) }
+    {
+        let field = field(bits);
+        let (lead, places) = if field == 0 {
+            (0, 0)
+        } else {
+            (LEAD, field - 1)
+        };
+        Scaled {
+            negative: SIGN <= bits,
+            significand: lead + bits % LEAD,
+            places,
+        }
+    }
+
+    // significand / 2^d, d at least 1.
+    fn cut(self, d: u64) -> Parts
+        requires { 0 < d }
+        ensures { (result ≡ parts_of (quotient self.negative self.significand (2 ^ d))) × (result.whole < 2 ^ 53) }
+    {
+        let x = self.significand as i64;
+        Parts {
+            negative: self.negative,
+            whole: integers::floor_by(x, d) as u64,
+            half: integers::digit(x, d - 1),
+            more: integers::any_below(x, d - 1),
+        }
+    }
+
+    // significand * 2^l. Shifted by 10 places it is below 2^63; by 11 it is more than any word holds, if it has its
+    // leading digit.
+    fn raised(self, l: u64) -> Parts
+        requires { 2 ^ 52 ≤ self.significand }
+        ensures { result ≡ parts_of (quotient self.negative (self.significand * 2 ^ l) 1) }
+    {
+        let whole = if 10 < l {
+            TOO_MANY
+        } else {
+            self.significand << l
+        };
+        Parts {
+            negative: self.negative,
+            whole,
+            half: 0,
+            more: 0,
+        }
+    }
+}
+
+// The unit 2^unit is 2^depth of the smallest number.
+fn depth(unit: i32) -> u64
+    requires { neg_ℤ most_unit ≤ℤ unit }
+    ensures { pos result ≡ pos (low binary64) +ℤ unit }
+{
+    (SMALLEST + i64::from(unit)) as u64
+}
+
+// Does the nearest whole count lie above the whole part? Past the half, and at the half where the whole
+// part is odd: (T or b) and h of document 001's equation 11.
+fn goes_up(odd: u8, half: u8, more: u8) -> u8
+    ensures { result ≡ bit_and (bit_or more odd) half }
+{
+    (more | odd) & half
 }
 
 // A count of units that need not be whole: in binary, its whole part, the first digit behind the point,
@@ -61,215 +150,118 @@ struct Parts {
     more: u8,
 }
 
-// The exponent's field.
-fn field(bits: u64) -> u64
-    ensures { result ≡ bits % top binary64 / hid binary64 }
-{
-    bits % SIGN / LEAD
-}
+impl Parts {
+    ghost use Rattle.binary64.specs.Parts.{parts_of, nearest_of, half_odd_of};
 
-fn is_finite(bits: u64) -> bool
-    ensures { result ≡ finite (sample bits) }
-{
-    !(field(bits) == ONES)
-}
+    // The sample in units of 2^unit.
+    fn in_units(bits: u64, unit: i32) -> Parts
+        requires { (finite (sample bits) ≡ true) × (neg_ℤ most_unit ≤ℤ unit) }
+        ensures { (result ≡ parts_of (in_units (sample bits) unit)) × (result.whole + result.half < 2 ^ 63) }
+    {
+        let x = Scaled::decoded(bits);
+        let d = depth(unit);
+        if x.places < d {
+            x.cut(d - x.places)
+        } else {
+            x.raised(x.places - d)
+        }
+    }
 
-// A function of its own, so that a wrong leading digit is another operand and not another sum.
-fn scaled_from(negative: bool, lead: u64, digits: u64, places: u64) -> Scaled
-    requires { lead + digits < 2 ^ 53 }
-    ensures { result ≡ record { negative = negative; significand = lead + digits; places = places } }
-{
-    Scaled {
-        negative: negative,
-        significand: lead + digits,
-        places: places,
+    fn nearest(self) -> u64
+        requires { self.whole + self.half < 2 ^ 63 }
+        ensures { result ≡ nearest_of self }
+    {
+        let odd = (self.whole % 2) as u8;
+        self.whole + u64::from(goes_up(odd, self.half, self.more))
+    }
+
+    // A count with this one's sign.
+    fn signed(self, n: u64) -> i64
+        requires { n < 2 ^ 63 }
+        ensures { result ≡ signed self.negative n }
+    {
+        if self.negative { -(n as i64) } else { n as i64 }
+    }
+
+    // The number of the nearest half-odd count: the floor, or of a whole count that with its lowest digit
+    // cleared.
+    fn half_odd(self) -> i64
+        requires { self.whole < 2 ^ 63 }
+        ensures { result ≡ half_odd_of self }
+    {
+        let behind: u8 = self.half | self.more;
+        if behind == 0 {
+            integers::cleared(self.signed(self.whole))
+        } else if self.negative {
+            !(self.whole as i64)
+        } else {
+            self.whole as i64
+        }
     }
 }
 
-// A field of 0 has no leading digit, and the places of a field of 1.
-fn decoded(bits: u64) -> Scaled
-    requires { finite (sample bits) ≡ true }
-    ensures has_value { HasValue (sample bits) result.negative (result.significand * 2 ^ result.places) (2 ^ low binary64) }
-    ensures significand_bound { (result.significand < 2 ^ 53) × (0 < result.places → 2 ^ 52 ≤ result.significand) }
-{
-    let negative = SIGN <= bits;
-    let field = field(bits);
-    let digits = bits % LEAD;
-    if field == 0 {
-        scaled_from(negative, 0, digits, 0)
-    } else {
-        scaled_from(negative, LEAD, digits, field - 1)
-    }
-}
-
-// m / 2^d, d at least 1.
-fn cut(negative: bool, m: u64, d: u64) -> Parts
-    requires { (m < 2 ^ 53) × (0 < d) }
-    ensures { (result ≡ parts_of (quotient negative m (2 ^ d))) × (result.whole < 2 ^ 53) }
-{
-    let x = m as i64;
-    let whole = integers::floor_by(x, d);
-    let half = integers::digit(x, d - 1);
-    let more = integers::any_below(x, d - 1);
-    Parts {
-        negative: negative,
-        whole: whole as u64,
-        half: half,
-        more: more,
-    }
-}
-
-// m * 2^l. Shifted by 10 places m is below 2^63; by 11 it is more than any word holds, since it has its
-// leading digit.
-fn raised(negative: bool, m: u64, l: u64) -> Parts
-    requires { (2 ^ 52 ≤ m) × (m < 2 ^ 53) }
-    ensures { result ≡ parts_of (quotient negative (m * 2 ^ l) 1) }
-{
-    let whole = if 10 < l { TOO_MANY } else { m << l };
-    Parts {
-        negative: negative,
-        whole: whole,
-        half: 0,
-        more: 0,
-    }
-}
-
-// The unit 2^unit is 2^depth of the smallest number.
-fn depth(unit: i32) -> u64
-    requires { neg_ℤ most_unit ≤ℤ unit }
-    ensures { pos result ≡ pos (low binary64) +ℤ unit }
-{
-    (SMALLEST + (unit as i64)) as u64
-}
-
-// The sample in units of 2^unit.
-fn in_units(bits: u64, unit: i32) -> Parts
-    requires { (finite (sample bits) ≡ true) × (neg_ℤ most_unit ≤ℤ unit) }
-    ensures { (result ≡ parts_of (in_units (sample bits) unit)) × (result.whole + result.half < 2 ^ 63) }
-{
-    let x = decoded(bits);
-    let d = depth(unit);
-    if x.places < d {
-        cut(x.negative, x.significand, d - x.places)
-    } else {
-        raised(x.negative, x.significand, x.places - d)
-    }
-}
-
-// Does the nearest whole count lie above the whole part? Past the half, and at the half where the whole
-// part is odd: (T or b) and h of document 001's equation 11.
-fn goes_up(odd: u8, half: u8, more: u8) -> u8
-    ensures { result ≡ bit_and (bit_or more odd) half }
-{
-    (more | odd) & half
-}
-
-fn nearest(p: Parts) -> u64
-    requires { p.whole + p.half < 2 ^ 63 }
-    ensures { result ≡ nearest_of p }
-{
-    let odd = (p.whole % 2) as u8;
-    p.whole + goes_up(odd, p.half, p.more) as u64
-}
-
-fn with_sign(negative: bool, n: u64) -> i64
-    requires { n < 2 ^ 63 }
-    ensures { result ≡ signed negative n }
-{
-    if negative { 0 - (n as i64) } else { n as i64 }
-}
-
-// The number of the nearest half-odd count: the floor, or of a whole count that with its lowest digit
-// cleared.
-fn half_odd(p: Parts) -> i64
-    requires { p.whole < 2 ^ 63 }
-    ensures { result ≡ half_odd_of p }
-{
-    let behind: u8 = p.half | p.more;
-    if behind == 0 {
-        integers::cleared(with_sign(p.negative, p.whole))
-    } else if p.negative {
-        !(p.whole as i64)
-    } else {
-        p.whole as i64
-    }
-}
-
+#[tactic(auto, unfolding(crate::specs::Import::import_check))]
 fn import_check(bits: u64, f: Format) -> Outcome
     ensures { result ≡ import_check bits f }
 {
-    words::or_else(
-        words::format_check(f),
-        words::refuse_for(Cause::NotFinite, !is_finite(bits)),
-    )
+    f.check()?;
+    words::refuse_for(Cause::NotFinite, !is_finite(bits))
 }
 
 // The sign is given twice, so that a test of another number than the answer's can be tried in place.
-fn plain_counted(bits: u64, f: Format) -> PlainAnswer
-    requires { import_check bits f ≡ Outcome.Done }
-    ensures { result ≡ plain_fitted (plain_word (whole_count bits f.unit) f) }
+fn plain_counted(bits: u64, f: Format) -> Result<PlainWord, Cause>
+    ensures { result ≡ (import_check bits f then given (refuse 8 (outside f (whole_count bits f.unit))) (plain_word (whole_count bits f.unit) f)) }
 {
-    let p = in_units(bits, f.unit);
-    let count = nearest(p);
-    if words::outside(f, with_sign(p.negative, count)) {
-        words::plain_refused(Cause::NumberPast)
-    } else {
-        words::plain_done(PlainWord {
-            number: Plain(with_sign(p.negative, count)),
-            format: f,
-        })
-    }
-}
-
-pub fn to_plain(bits: u64, width: u32, unit: i32) -> PlainAnswer
-    ensures { result ≡ to_plain_of bits (format width unit) }
-{
-    let f = Format {
-        width: width,
-        unit: unit,
-    };
-    match import_check(bits, f) {
-        Outcome::Refused(c) => words::plain_refused(c),
-        Outcome::Done => plain_counted(bits, f),
-    }
-}
-
-// The plain word with round bit 0; the blank one stays blank.
-pub fn to_round_bit(bits: u64, width: u32, unit: i32) -> RoundBitAnswer
-    ensures { result ≡ to_round_bit_of bits (format width unit) }
-{
-    let a = to_plain(bits, width, unit);
-    let o = a.outcome;
-    let f = a.word.format;
-    RoundBitAnswer {
-        outcome: o,
-        word: RoundBitWord {
-            number: RoundBit(a.word.number.0, 0),
-            format: f,
-        },
-    }
-}
-
-fn half_unit_counted(bits: u64, f: Format) -> HalfUnitAnswer
-    requires { import_check bits f ≡ Outcome.Done }
-    ensures { result ≡ half_unit_fitted (half_unit_word (half_odd_count bits f.unit) f) }
-{
-    let w = half_odd(in_units(bits, f.unit));
-    words::half_unit_fitted(HalfUnitWord {
-        number: HalfUnit(w),
+    import_check(bits, f)?;
+    let p = Parts::in_units(bits, f.unit);
+    let count = p.nearest();
+    let past = f.outside(p.signed(count));
+    words::refuse_for(Cause::NumberPast, past)?;
+    Ok(Word {
+        number: Plain(p.signed(count)),
         format: f,
     })
 }
 
+#[tactic(auto, unfolding(words::specs::Plain::plain_fitted), using(words::proofs::Given::answer_fitted))]
+pub fn to_plain(bits: u64, width: u32, unit: i32) -> PlainAnswer
+    ensures { result ≡ to_plain_of bits (format width unit) }
+{
+    plain_counted(bits, Format { width, unit }).into()
+}
+
+// The plain word with round bit 0.
+fn round_bit_counted(bits: u64, f: Format) -> Result<RoundBitWord, Cause>
+    ensures { result ≡ (import_check bits f then given (refuse 8 (outside f (whole_count bits f.unit))) (round_bit_word (whole_count bits f.unit) 0 f)) }
+{
+    let plain = plain_counted(bits, f)?;
+    Ok(Word {
+        number: RoundBit(plain.number.0, 0),
+        format: plain.format,
+    })
+}
+
+#[tactic(auto, unfolding(words::specs::RoundBit::round_bit_fitted), using(words::proofs::Given::answer_fitted))]
+pub fn to_round_bit(bits: u64, width: u32, unit: i32) -> RoundBitAnswer
+    ensures { result ≡ to_round_bit_of bits (format width unit) }
+{
+    round_bit_counted(bits, Format { width, unit }).into()
+}
+
+fn half_unit_counted(bits: u64, f: Format) -> Result<HalfUnitWord, Cause>
+    ensures { result ≡ (import_check bits f then given (refuse 8 (outside f (half_odd_count bits f.unit))) (half_unit_word (half_odd_count bits f.unit) f)) }
+{
+    import_check(bits, f)?;
+    Word {
+        number: HalfUnit(Parts::in_units(bits, f.unit).half_odd()),
+        format: f,
+    }
+    .fitted()
+}
+
+#[tactic(auto, unfolding(words::specs::HalfUnit::half_unit_fitted), using(words::proofs::Given::answer_fitted))]
 pub fn to_half_unit(bits: u64, width: u32, unit: i32) -> HalfUnitAnswer
     ensures { result ≡ to_half_unit_of bits (format width unit) }
 {
-    let f = Format {
-        width: width,
-        unit: unit,
-    };
-    match import_check(bits, f) {
-        Outcome::Refused(c) => words::half_unit_refused(c),
-        Outcome::Done => half_unit_counted(bits, f),
-    }
+    half_unit_counted(bits, Format { width, unit }).into()
 }

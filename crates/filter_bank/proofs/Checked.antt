@@ -28,9 +28,9 @@ use Rattle.filter_bank.proofs.Laws.Passed.{row_passes, sum_good}
 -- a third check that has one more cause refuses what it refused, for the same
 more_causes : (o p : Outcome) (a b : Bool) (c : Cause) → (o or_else p or_else refuse 7 a) ≡ Refused c → (o or_else p or_else refuse 7 (a || b)) ≡ Refused c
 more_causes (Err d) p a b c e = e
-more_causes (Ok tt) (Err d) a b c e = e
-more_causes (Ok tt) (Ok tt) true b c e = e
-more_causes (Ok tt) (Ok tt) false b c e = absurd (refused_not_done (sym e))
+more_causes (Ok _) (Err d) a b c e = e
+more_causes (Ok _) (Ok _) true b c e = e
+more_causes (Ok _) (Ok _) false b c e = absurd (refused_not_done (sym e))
 
 -- a channel over 3 is refused, whatever taps stand for its own
 pub taps_alone : (taps other window : List RoundBitWord) (channel : ℕ) → (channel ≤ most_channel → taps ≡ other) →

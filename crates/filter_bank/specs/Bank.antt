@@ -12,7 +12,7 @@ use Rattle.words.specs.Formats.{format}
 use Rattle.words.specs.RoundBit.{round_bit_word, round_bit_check, round_bit_done, ◌and_then◌}
 use Rattle.round_bit.specs.Cuts.{cut_word}
 use Rattle.round_bit.specs.Arithmetic.{sum_word, product_word}
-use Rattle.filter_bank.specs.declared.OutputAnswer.{OutputAnswer}
+use Rattle.words.specs.Kinds.{RoundBitCutAnswer}
 
 -- "four rows": no "channel over 3"
 abbrev pub most_channel : ℕ
@@ -104,15 +104,15 @@ channel_check taps window channel =
     or_else unit_check taps window
 
 -- the answer of an output has what any answer has
-abbrev pub output_answer : Outcome → RoundBitWord → OutputAnswer
+abbrev pub output_answer : Outcome → RoundBitWord → RoundBitCutAnswer
 output_answer o w = record { outcome = o; word = w }
 
 -- the output of a channel that has these taps
-abbrev pub channel_output_of : List RoundBitWord → List RoundBitWord → ℕ → OutputAnswer
+abbrev pub channel_output_of : List RoundBitWord → List RoundBitWord → ℕ → RoundBitCutAnswer
 channel_output_of taps window channel =
     let a = channel_check taps window channel and_then round_bit_done (output_word taps window) in
     output_answer a.outcome a.word
 
 -- "The other channels' taps are not looked at."
-abbrev pub output_of : List (List RoundBitWord) → List RoundBitWord → ℕ → OutputAnswer
+abbrev pub output_of : List (List RoundBitWord) → List RoundBitWord → ℕ → RoundBitCutAnswer
 output_of bank window channel = channel_output_of (row_of bank channel) window channel

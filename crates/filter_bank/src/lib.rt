@@ -13,13 +13,12 @@ ghost use Rattle.std.specs.Prelude.{◌≡◌, ◌^◌, ◌<◌, ◌≤◌, ltb,
 ghost use Rattle.std.specs.Int.Signed.{mag};
 ghost use Rattle.words.specs.Words.{bad_unit};
 ghost use Rattle.words.specs.Refusals.{refuse, ◌or_else◌};
-ghost use Rattle.words.specs.Formats.{format, format_answer};
-ghost use Rattle.words.specs.RoundBit.{round_bit_refused};
-ghost use Rattle.round_bit.specs.Cuts.{cut_of};
+ghost use Rattle.words.specs.Outcomes.{Done, given};
+ghost use Rattle.words.specs.Formats.{format};
 ghost use Rattle.round_bit.specs.Arithmetic.{added, sign_changed_if, multiplied};
-ghost use Rattle.filter_bank.specs.Bank.{most_channel, sum_width, cut_depth, products, total, any_differ, unlike, products_unit, words_check, row_check, output_answer, channel_output_of, output_of};
+ghost use Rattle.filter_bank.specs.Bank.{most_channel, sum_width, cut_depth, products, total, any_differ, unlike, products_unit, words_check, row_check, channel_output_of, output_of};
 
-use words::{Cause, Format, FormatAnswer, Outcome, RoundBit, RoundBitWord};
+use words::{Cause, CutAnswer, Format, Outcome, RoundBit, RoundBitWord, Word, refuse_for};
 
 pub const CHANNELS: u32 = 4;
 
@@ -35,34 +34,18 @@ const SUM_WIDTH: u64 = 31;
 
 const CUT_DEPTH: u64 = 11;
 
-// The answer of an output.
+// The taps of a channel, and the samples that they are for.
 #[derive(Clone, Copy)]
-pub struct OutputAnswer {
-    pub outcome: Outcome,
-    pub word: RoundBitWord,
-}
-
-fn output_answer(o: Outcome, w: RoundBitWord) -> OutputAnswer
-    ensures { result ≡ output_answer o w }
-{
-    OutputAnswer {
-        outcome: o,
-        word: w,
-    }
-}
-
-fn output_refused(c: Cause) -> OutputAnswer
-    ensures { result ≡ output_answer (round_bit_refused c).outcome (round_bit_refused c).word }
-{
-    let a = words::round_bit_refused(c);
-    output_answer(Outcome::Refused(c), a.word)
+struct Row {
+    taps: [RoundBitWord; TAPS],
+    window: [RoundBitWord; TAPS],
 }
 
 // Has any of eight words another format?
 fn any_differ(f: Format, w: [RoundBitWord; 8]) -> bool
     ensures { result ≡ any_differ f w }
 {
-    w.iter().any(|x| words::differ(x.format, f))
+    w.iter().any(|x| x.format.differs(f))
 }
 
 // This width, with the unit of a word.
@@ -70,7 +53,7 @@ fn in_width(width: u32, w: RoundBitWord) -> Format
     ensures { result ≡ format width w.format.unit }
 {
     Format {
-        width: width,
+        width,
         unit: w.format.unit,
     }
 }
@@ -88,43 +71,9 @@ fn words_check(w: [RoundBitWord; 8]) -> Outcome
     ensures { result ≡ words_check w }
 {
     for x in w {
-        if let Outcome::Refused(c) = words::round_bit_check(x) {
-            return Outcome::Refused(c);
-        }
+        x.check()?;
     }
-    Outcome::Done
-}
-
-// 1, 2, 3 of the taps, tap by tap, then of the samples, then 4.
-fn row_check(taps: [RoundBitWord; 8], window: [RoundBitWord; 8]) -> Outcome
-    ensures { result ≡ row_check taps window }
-{
-    if let Outcome::Refused(c) = words_check(taps) {
-        return Outcome::Refused(c);
-    }
-    if let Outcome::Refused(c) = words_check(window) {
-        return Outcome::Refused(c);
-    }
-    words::refuse_for(
-        Cause::Mismatch,
-        unlike(TAP_WIDTH, taps) | unlike(SAMPLE_WIDTH, window),
-    )
-}
-
-// The format of the sum, which the check finds; the 7 of the output comes with the cut.
-fn sum_format(taps: [RoundBitWord; 8], window: [RoundBitWord; 8], channel: u32) -> FormatAnswer
-    ensures { result ≡ format_answer (refuse 17 (ltb most_channel channel) or_else row_check taps window or_else refuse 7 (bad_unit (products_unit taps window))) (format sum_width (products_unit taps window)) }
-{
-    if MOST_CHANNEL < channel {
-        words::format_refused(Cause::Channel)
-    } else if let Outcome::Refused(c) = row_check(taps, window) {
-        words::format_refused(c)
-    } else {
-        words::formed(
-            SUM_WIDTH,
-            words::units_multiplied(taps[0].format, window[0].format),
-        )
-    }
+    Ok(())
 }
 
 // A round bit, turned over where its word's sign is to change.
@@ -170,56 +119,79 @@ fn summed(m: RoundBit, n: RoundBit) -> RoundBit
     RoundBit(m.0 + n.0 + i64::from(m.1 & n.1), m.1 | n.1)
 }
 
-// The products, added from tap 0 up.
-fn total(taps: [RoundBitWord; 8], window: [RoundBitWord; 8]) -> RoundBit
-    requires { row_check taps window ≡ Outcome.Done }
-    ensures { result ≡ (total (products taps window)).number }
-{
-    let mut sum = tap_product(taps[0].number, window[0].number);
-    for i in 1..TAPS {
-        sum = summed(sum, tap_product(taps[i].number, window[i].number));
+impl Row {
+    // 1, 2, 3 of the taps, tap by tap, then of the samples, then 4.
+    fn check(self) -> Outcome
+        ensures { result ≡ row_check self.taps self.window }
+    {
+        words_check(self.taps)?;
+        words_check(self.window)?;
+        let unlike = unlike(TAP_WIDTH, self.taps) | unlike(SAMPLE_WIDTH, self.window);
+        refuse_for(Cause::Mismatch, unlike)
     }
-    sum
-}
 
-fn sum_word(taps: [RoundBitWord; 8], window: [RoundBitWord; 8], f: Format) -> RoundBitWord
-    requires { (row_check taps window ≡ Outcome.Done) × (f ≡ format sum_width (products_unit taps window)) }
-    ensures { result ≡ total (products taps window) }
-{
-    RoundBitWord {
-        number: total(taps, window),
-        format: f,
+    // The format of the sum; the 7 of the output comes with the cut.
+    fn sum_format(self) -> Result<Format, Cause>
+        ensures { result ≡ given (row_check self.taps self.window or_else refuse 7 (bad_unit (products_unit self.taps self.window))) (format sum_width (products_unit self.taps self.window)) }
+    {
+        self.check()?;
+        Format::formed(
+            SUM_WIDTH,
+            self.taps[0].format.units_multiplied(self.window[0].format),
+        )
+    }
+
+    // The products, added from tap 0 up.
+    fn total(self) -> RoundBit
+        requires { row_check self.taps self.window ≡ Done }
+        ensures { result ≡ (total (products self.taps self.window)).number }
+    {
+        let mut sum = tap_product(self.taps[0].number, self.window[0].number);
+        for i in 1..TAPS {
+            sum = summed(sum, tap_product(self.taps[i].number, self.window[i].number));
+        }
+        sum
+    }
+
+    fn sum_word(self) -> Result<RoundBitWord, Cause>
+        ensures { result ≡ given (row_check self.taps self.window or_else refuse 7 (bad_unit (products_unit self.taps self.window))) (total (products self.taps self.window)) }
+    {
+        let format = self.sum_format()?;
+        Ok(Word {
+            number: self.total(),
+            format,
+        })
     }
 }
 
-// The sum, cut; 7 where the cut has no unit.
-fn output_cut(w: RoundBitWord) -> OutputAnswer
-    ensures { result ≡ output_answer (cut_of w cut_depth).outcome (cut_of w cut_depth).word }
+fn sum_of_channel(row: Row, channel: u32) -> Result<RoundBitWord, Cause>
+    ensures { result ≡ given (refuse 17 (ltb most_channel channel) or_else row_check row.taps row.window or_else refuse 7 (bad_unit (products_unit row.taps row.window))) (total (products row.taps row.window)) }
 {
-    let a = round_bit::cut(w, CUT_DEPTH);
-    let o = a.outcome;
-    output_answer(o, a.word)
+    refuse_for(Cause::Channel, MOST_CHANNEL < channel)?;
+    row.sum_word()
 }
 
-// The output of a channel that has these taps.
+// The output of a channel that has these taps: the sum, cut; 7 where the cut has no unit.
 pub fn channel_output(
     taps: [RoundBitWord; 8],
     window: [RoundBitWord; 8],
     channel: u32,
-) -> OutputAnswer
+) -> CutAnswer<RoundBit>
     ensures { result ≡ channel_output_of taps window channel }
 {
-    let a = sum_format(taps, window, channel);
-    let o = a.outcome;
-    match o {
-        Outcome::Refused(c) => output_refused(c),
-        Outcome::Done => output_cut(sum_word(taps, window, a.format)),
+    match sum_of_channel(Row { taps, window }, channel) {
+        Ok(sum) => round_bit::cut(sum, CUT_DEPTH),
+        Err(cause) => CutAnswer::from(Err(cause)),
     }
 }
 
 // One channel's output. A channel that the bank has not is refused before its taps are looked at, so
 // any row may stand for them.
-pub fn output(bank: [[RoundBitWord; 8]; 4], window: [RoundBitWord; 8], channel: u32) -> OutputAnswer
+pub fn output(
+    bank: [[RoundBitWord; 8]; 4],
+    window: [RoundBitWord; 8],
+    channel: u32,
+) -> CutAnswer<RoundBit>
     ensures { result ≡ output_of bank window channel }
 {
     let c = (channel % CHANNELS) as usize;

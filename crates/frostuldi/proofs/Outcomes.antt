@@ -13,7 +13,7 @@ outcome_in zero = Done
 outcome_in (suc n) = Refused (found Width (row (suc n)))
 
 pub outcome_back : (o : Outcome) → outcome_in (number_of o) ≡ o
-outcome_back (Ok tt) = refl
+outcome_back (Ok _) = refl
 outcome_back (Err c) =
     let above : cause_number c ≡ suc (cause_number c - 1) = omega (arith, cause_some c) in
     ap outcome_in above

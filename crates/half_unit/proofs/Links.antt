@@ -9,9 +9,8 @@ use Rattle.words.specs.Outcomes.{Outcome}
 use Rattle.words.specs.Outcomes.{Done}
 use Rattle.words.specs.Kinds.{HalfUnitWord}
 use Rattle.words.specs.Kinds.{HalfUnitAnswer}
+use Rattle.words.specs.Kinds.{HalfUnitCutAnswer}
 use Rattle.words.proofs.MoveLinks.{Made, moves_of, reached, MoveLinks, links_claimed, links_alike}
-use Rattle.words.specs.declared.HalfUnit.{HalfUnit}
-use Rattle.words.specs.declared.CutAnswer.{CutAnswer}
 use Rattle.half_unit.specs.Moves.{moved, Claimed}
 use Rattle.half_unit.proofs.cut.Reads as cut-function
 use Rattle.half_unit.proofs.sign_change.Reads as sign-change-function
@@ -23,7 +22,7 @@ Meets w (cut d) o v = cut-function.Post tt (w, (d, tt)) (record { outcome = o; w
 Meets w sign_change o v = sign-change-function.Post tt (w, tt) (record { outcome = o; word = v }) (w, tt)
 
 meets_moved : (w v : HalfUnitWord) (m : Move) (o : Outcome) → Meets w m o v → moved w m ≡ record { outcome = o; word = v }
-meets_moved w v (cut d) o p = ap (λ (a : CutAnswer HalfUnit). record { outcome = a.outcome; word = a.word }) (sym p)
+meets_moved w v (cut d) o p = ap (λ (a : HalfUnitCutAnswer). record { outcome = a.outcome; word = a.word }) (sym p)
 meets_moved w v sign_change o p = ap (λ (a : HalfUnitAnswer). record { outcome = a.outcome; word = a.word }) (sym p)
 
 -- ---- from a right word, by these moves and their outcomes, to the last word

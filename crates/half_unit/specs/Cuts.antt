@@ -2,11 +2,10 @@
 use Rattle.std.specs.Prelude.{ℕ}
 use Rattle.integers.specs.Names.{turned, floor_by}
 use Rattle.words.specs.Outcomes.{Outcome}
-use Rattle.words.specs.declared.HalfUnit.{HalfUnit}
-use Rattle.words.specs.declared.CutAnswer.{CutAnswer}
 use Rattle.words.specs.Answers.{cut_answer}
 use Rattle.words.specs.Kinds.{HalfUnitWord}
 use Rattle.words.specs.Kinds.{HalfUnitAnswer}
+use Rattle.words.specs.Kinds.{HalfUnitCutAnswer}
 use Rattle.words.specs.Refusals.{◌or_else◌}
 use Rattle.words.specs.Formats.{narrower, narrower_check}
 use Rattle.words.specs.HalfUnit.{half_unit_word, half_unit_check, half_unit_done, ◌and_then◌}
@@ -26,5 +25,5 @@ cut_word w d = half_unit_word (floor_by w.number.0 d) (narrower w.format d)
 abbrev pub cut_check : HalfUnitWord → ℕ → Outcome
 cut_check w d = half_unit_check w or_else narrower_check w.format d
 
-abbrev pub cut_of : HalfUnitWord → ℕ → CutAnswer HalfUnit
+abbrev pub cut_of : HalfUnitWord → ℕ → HalfUnitCutAnswer
 cut_of w d = cut_answer (cut_check w d and_then half_unit_done (cut_word w d))

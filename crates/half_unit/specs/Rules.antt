@@ -11,7 +11,7 @@ use Rattle.words.specs.HalfUnit.{half_unit_word}
 -- a check's refusal, if there is one, and else what is made of a number that the rule gives
 abbrev pub MadeBy :
     (ℤ → Type 0) → Outcome → (ℤ → Result HalfUnitWord Cause) → Result HalfUnitWord Cause → Type 0
-MadeBy Gives (Ok tt) made r = (q : ℤ) × Gives q × (r ≡ made q)
+MadeBy Gives (Ok _) made r = (q : ℤ) × Gives q × (r ≡ made q)
 MadeBy Gives (Err c) made r = r ≡ Err c
 
 -- of a cut and a conversion with a depth: the word in its format

@@ -7,7 +7,7 @@
 
 mod whole_io;
 
-ghost use Rattle.std.specs.Prelude.{◌≡◌, ◌≤◌, IfSome, take, false};
+ghost use Rattle.std.specs.Prelude.{◌≡◌, ◌≤◌, IfSome, length, take, false};
 ghost use Rattle.io.specs.Counts.{IsPrefixLen};
 ghost use Rattle.listing_text.specs.Listing.{listing, list_check};
 ghost use Rattle.listing.specs.Endings.{LeavesListing, read_of};
@@ -38,6 +38,7 @@ enum Ended {
 }
 
 impl Ended {
+    // What one who asks for the outcome is told.
     fn line(&self) -> &'static str {
         match self {
             Ended::Listed => "listed\n",
@@ -125,13 +126,15 @@ fn stopped(err: &mut impl Write, what: &str, end: End) {
             let mut room = [0u8; ERROR_ROOM];
             whole_io::write_whole(err, without_number(text_of(error, &mut room)));
         }
-        _ => say(err, "takes no more bytes"),
+        End::Whole | End::Stuck => say(err, "takes no more bytes"),
     }
     say(err, "\n");
 }
 
 // An error's text, put at the front of the buffer.
-fn text_of(error: Error, room: &mut [u8; ERROR_ROOM]) -> &[u8] {
+fn text_of(error: Error, room: &mut [u8; ERROR_ROOM]) -> &[u8]
+    ensures { length result.now ≤ 300 }
+{
     let mut rest: &mut [u8] = &mut room[..];
     let _ = write!(rest, "{error}");
     let count = ERROR_ROOM.saturating_sub(rest.len());

@@ -25,7 +25,7 @@ use Rattle.round_bit.specs.Arithmetic.{sum_check, product_format, product_check}
 
 -- a done answer passed its check, and has the word that it was made with
 pub word_done : (o : Outcome) (w : RoundBitWord) → (o and_then round_bit_done w).outcome ≡ Done → (o ≡ Done) × ((o and_then round_bit_done w).word ≡ w)
-word_done (Ok tt) w e = (refl, refl)
+word_done (Ok _) w e = (refl, refl)
 word_done (Err c) w e = absurd (refused_not_done e)
 
 pub word_outcome : (o : Outcome) (w : RoundBitWord) → (o and_then round_bit_done w).outcome ≡ o

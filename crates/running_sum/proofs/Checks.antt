@@ -65,8 +65,9 @@ module _ (s : RunningSum) where
   handed = record { word = (cut_of s.kept s.depth).word; rest = (rest_of s.kept s.depth).word }
 
   same_given : (o : Outcome) (v r : RoundBitWord) →
-      given o (record { word = v; rest = r }) ≡ given {A = CutAndRest} o (record { word = (o and_then round_bit_done v).word; rest = (o and_then round_bit_done r).word })
-  same_given (Ok tt) v r = refl
+      given o (record { word = v; rest = r }) ≡
+      given {A = CutAndRest} o (record { word = (o and_then round_bit_done v).word; rest = (o and_then round_bit_done r).word })
+  same_given (Ok _) v r = refl
   same_given (Err c) v r = refl
 
   pub cut_handed : eqb s.depth 0 ≡ false → cut_and_rest_of s.kept s.depth ≡ given (running_sum_check s) handed
@@ -77,7 +78,7 @@ module _ (s : RunningSum) where
 
 -- a put's check is that of the sum of the two words, and then the depth's
 or_else_regrouped : (o p q : Outcome) → ((o or_else p) or_else q) ≡ (o or_else (p or_else q))
-or_else_regrouped (Ok tt) p q = refl
+or_else_regrouped (Ok _) p q = refl
 or_else_regrouped (Err c) p q = refl
 
 pub put_is : (s : RunningSum) (w : RoundBitWord) → put_check s w ≡ (sum_check s.kept w or_else depth_check s.kept.format s.depth)

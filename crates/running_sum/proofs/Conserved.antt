@@ -31,23 +31,23 @@ use Rattle.running_sum.specs.Totals.{amount, taken_in, given_out}
 by_outcome : (Q : Step → Type 0) (o : Outcome) (w : RoundBitWord) (new old : RunningSum) → (o ≡ Done → Q (record { outcome = Done; word = w; sum = new })) →
     ((c : Cause) → Q (record { outcome = Refused c; word = blank; sum = old })) → Q (stepped o w new old)
 unfolding stepped
-by_outcome Q (Ok tt) w new old f g = f refl
+by_outcome Q (Ok _) w new old f g = f refl
 by_outcome Q (Err c) w new old f g = g c
 
 refused_step : (o : Outcome) (w : RoundBitWord) (new old : RunningSum) (r : Cause) → (stepped o w new old).outcome ≡ Refused r →
     ((stepped o w new old).sum ≡ old) × ((stepped o w new old).word ≡ blank)
 unfolding stepped
-refused_step (Ok tt) w new old r e = absurd (refused_not_done (sym e))
+refused_step (Ok _) w new old r e = absurd (refused_not_done (sym e))
 refused_step (Err c) w new old r e = (refl, refl)
 
 pub step_outcome : (o : Outcome) (w : RoundBitWord) (new old : RunningSum) → (stepped o w new old).outcome ≡ o
 unfolding stepped
-step_outcome (Ok tt) w new old = refl
+step_outcome (Ok _) w new old = refl
 step_outcome (Err c) w new old = refl
 
 done_step : (o : Outcome) (w : RoundBitWord) (new old : RunningSum) → (stepped o w new old).outcome ≡ Done → (o ≡ Done) × ((stepped o w new old).sum ≡ new)
 unfolding stepped
-done_step (Ok tt) w new old e = (refl, refl)
+done_step (Ok _) w new old e = (refl, refl)
 done_step (Err c) w new old e = absurd (refused_not_done e)
 
 -- ---- 0. a refused call leaves the sum as it was and hands back the blank word, of any sum at all
@@ -197,5 +197,5 @@ pub shut_step : (c : Call) → ((step_of shut c).outcome ≡ Done → ⊥) × ((
 shut_step c = (shut_outcome c, stays (step_of shut c).outcome refl)
   where
     stays : (o : Outcome) → (step_of shut c).outcome ≡ o → (step_of shut c).sum ≡ shut
-    stays (Ok tt) e = absurd (shut_outcome c e)
+    stays (Ok _) e = absurd (shut_outcome c e)
     stays (Err r) e = (refused_unchanged shut c r e).0

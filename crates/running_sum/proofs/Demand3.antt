@@ -77,7 +77,7 @@ left_shut (c ∷ cs) = ap (λ (s : RunningSum). left s cs) (shut_step c).1 ∙ l
 -- ---- what an opening gives
 opened_value : (o : Outcome) (f : Format) (d : ℕ) → round_bit_value (open_answer o f d).sum.kept ≡ pos 0
 unfolding open_answer value
-opened_value (Ok tt) f d = refl
+opened_value (Ok _) f d = refl
 opened_value (Err c) f d = refl
 
 opened_passes : (f : Format) (d : ℕ) → open_check f d ≡ Done → running_sum_check (open_answer Done f d).sum ≡ Done
@@ -88,7 +88,7 @@ opened_passes f d e =
 
 opened_outcome : (o : Outcome) (f : Format) (d : ℕ) → (open_answer o f d).outcome ≡ o
 unfolding open_answer
-opened_outcome (Ok tt) f d = refl
+opened_outcome (Ok _) f d = refl
 opened_outcome (Err c) f d = refl
 
 refused_shut : (n : ℕ) (e : ℤ) (d : ℕ) → ((open_of n e d).outcome ≡ Done → ⊥) → (open_of n e d).sum ≡ shut
@@ -96,7 +96,7 @@ unfolding open_of open_answer
 refused_shut n e d h = go (open_check (format n e) d) h
   where
     go : (o : Outcome) → ((open_answer o (format n e) d).outcome ≡ Done → ⊥) → (open_answer o (format n e) d).sum ≡ shut
-    go (Ok tt) h = absurd (h refl)
+    go (Ok _) h = absurd (h refl)
     go (Err c) h = refl
 
 -- ---- the theorem, of the sum that an opening gave, done or refused, and of any calls on it

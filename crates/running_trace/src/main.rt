@@ -122,7 +122,7 @@ fn bench_sheet(rt: &impl Print) -> io::Result<()> {
 }
 
 fn next(x: u32) -> u32 {
-    ((75 * (x as u64) + 74) % 65537) as u32
+    ((75 * u64::from(x) + 74) % 65537) as u32
 }
 
 fn fine(a: i64, r: u8) -> RoundBitWord {

@@ -12,7 +12,7 @@ use Rattle.words.specs.Answers.{blank_of, answer_of}
 module _ {N : Type 0} (zero : N) where
   pub answer_then : (o : Outcome) (r : Result (Word N) Cause) →
       answer_of zero (o then r) ≡ after (λ c. record { outcome = Refused c; word = blank_of zero }) o (answer_of zero r)
-  answer_then (Ok tt) r = refl
+  answer_then (Ok _) r = refl
   answer_then (Err c) r = refl
 
   pub answer_given : (o : Outcome) (w : Word N) →
@@ -23,16 +23,16 @@ module _ {N : Type 0} (zero : N) where
   pub answer_fitted : (o p : Outcome) (w : Word N) →
       answer_of zero (o then given p w) ≡ after (λ c. record { outcome = Refused c; word = blank_of zero }) o
       (after (λ c. record { outcome = Refused c; word = blank_of zero }) p (record { outcome = Done; word = w }))
-  answer_fitted (Ok tt) p w = answer_given p w
+  answer_fitted (Ok _) p w = answer_given p w
   answer_fitted (Err c) p w = refl
 
 -- ---- what is known behind a `?`: the check passed, and that is what was given; and what is then answered
 pub ok_given : {A : Type 0} (o : Outcome) (a b : A) → Ok b ≡ given o a → (o ≡ Done) × (b ≡ a)
-ok_given (Ok tt) a b e = (refl, cc)
+ok_given (Ok _) a b e = (refl, cc)
 ok_given (Err c) a b e = absurd cc
 
 pub err_given : {A : Type 0} (o : Outcome) (a : A) (c : Cause) → Err c ≡ given o a → o ≡ Refused c
-err_given (Ok tt) a c e = absurd cc
+err_given (Ok _) a c e = absurd cc
 err_given (Err d) a c e = cc
 
 pub given_is : {A : Type 0} {o : Outcome} {a b : A} → o ≡ Done → a ≡ b → Ok a ≡ given o b

@@ -47,7 +47,7 @@ alike_step {W} moved w v last m more o rest e r = rw e (go o)
     go : (o : Outcome) →
         let end : Moved W = after (λ c. record { outcome = o; word = v }) o (ran_by moved v more) in
         ((o or_else rest) ≡ end.outcome) × ((o or_else rest) ≡ Done → record { outcome = o or_else rest; word = last } ≡ end)
-    go (Ok tt) = r
+    go (Ok _) = r
     go (Err c) = (refl, λ d. absurd (refused_not_done d))
 
 module _ {W : Type 0} (moved : W → Move → Moved W) (Meets : W → Move → Outcome → W → Type 0)

@@ -76,7 +76,7 @@ module _ {W : Type 0} (moved : W → Move → Moved W) where
   steps_done w m more e = go (moved w m).outcome refl e
     where
       go : (o : Outcome) → (moved w m).outcome ≡ o → (after (λ c. moved w m) o (ran_by moved (moved w m).word more)).outcome ≡ Done → (moved w m).outcome ≡ Done
-      go (Ok tt) p e = p
+      go (Ok _) p e = p
       go (Err c) p e = e
 
 module _ {W : Type 0} {moved : W → Move → Moved W} {value : W → ℤ} {format : W → Format} {Near : ℕ → ℕ → Type 0} {check : W → Outcome}

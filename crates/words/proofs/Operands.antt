@@ -58,7 +58,7 @@ fit_passes f x h = rw (by_fits x f.width h)
 -- ---- a done answer of any kind passed its check; `refused` makes the refusals of the kind
 module _ {A : Type 0} (refused : Cause → A) (outcome : A → Outcome) (told : (c : Cause) → outcome (refused c) ≡ Refused c) where
   pub done_passed : (o : Outcome) (a : A) → outcome (after refused o a) ≡ Done → o ≡ Done
-  done_passed (Ok tt) a e = refl
+  done_passed (Ok _) a e = refl
   done_passed (Err c) a e = absurd (refused_not_done (sym (told c) ∙ e))
 
   -- and where 8 was asked last, its number fits
@@ -70,7 +70,7 @@ module _ {A : Type 0} (refused : Cause → A) (outcome : A → Outcome) (told : 
 
   -- the outcome of an answer that is done after a check is the check's
   pub outcome_kept : (o : Outcome) (a : A) → outcome a ≡ Done → outcome (after refused o a) ≡ o
-  outcome_kept (Ok tt) a e = e
+  outcome_kept (Ok _) a e = e
   outcome_kept (Err c) a e = told c
 
 -- ---- the check of two operands that must have one format, both ways

@@ -1,6 +1,7 @@
 -- Document 01, "Refusal numbers": the table, with the rows that requests of document 02 added, and
 -- the rule for several causes.
-use Rattle.std.specs.Prelude.{Result, Ok, Err, ℕ, Bool, true, false, not, ◌&&◌, ◌||◌, List, [], ◌∷◌, eqb, ℤ, pos}
+use Rattle.std.specs.Prelude.{Result, Ok, Err, ℕ, Bool, true, false, not, ◌&&◌, ◌||◌, List, [], ◌∷◌}
+use Rattle.std.specs.Prelude.{eqb, ℤ, pos}
 use Rattle.integers.specs.Names.{eq_z, at_front}
 use Rattle.words.specs.declared.Cause.{Cause}
 use Rattle.words.specs.declared.Cause.TheVariants.{Width, Unit, Number, Mismatch}

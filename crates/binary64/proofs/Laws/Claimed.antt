@@ -16,7 +16,7 @@ use lib.Ieee.Scale.{finite}
 use Rattle.words.specs.declared.Cause.{Cause}
 use Rattle.words.specs.declared.Cause.TheVariants.{NumberPast}
 use Rattle.words.specs.Outcomes.{Outcome}
-use Rattle.words.specs.Outcomes.{Done, Refused}
+use Rattle.words.specs.Outcomes.{Done}
 use Rattle.words.specs.declared.Format.{Format}
 use Rattle.words.specs.Words.{Kind, value, outside}
 use Rattle.words.specs.Words.Kind.{plain, round_bit, half_unit}
@@ -39,8 +39,8 @@ checked o t a = after (λ c. refused (cause_number c)) o (cond t (refused 8) a)
 -- `refusing` makes the refusals of a kind
 laid_checked : {A : Type 0} (laid : A → Flat) (refusing : Cause → A) → ((c : Cause) → laid (refusing c) ≡ refused (cause_number c)) →
     (o : Outcome) (t : Bool) (a : A) → laid (after refusing o (after refusing (refuse 8 t) a)) ≡ checked o t (laid a)
-laid_checked laid refusing told (Ok tt) true a = told NumberPast
-laid_checked laid refusing told (Ok tt) false a = refl
+laid_checked laid refusing told (Ok _) true a = told NumberPast
+laid_checked laid refusing told (Ok _) false a = refl
 laid_checked laid refusing told (Err c) t a = told c
 
 module _ (bits : ℕ) (f : Format) where
@@ -69,8 +69,8 @@ module _ (bits : ℕ) (f : Format) where
       (d.0, import_is k ∙ d.1)
     where
       go : (o : Outcome) (t : Bool) → (checked o t (done k)).refusal ≡ 0 → (o ≡ Done) × (checked o t (done k) ≡ done k)
-      go (Ok tt) true g = absurd (omega arith)
-      go (Ok tt) false g = (refl, refl)
+      go (Ok _) true g = absurd (omega arith)
+      go (Ok _) false g = (refl, refl)
       go (Err c) t g = absurd (omega (arith, cause_some c))
 
   pub done_value : (k : Kind) → (imported k bits f).refusal ≡ 0 → value_of k (imported k bits f) ≡ value k (number k bits f.unit) 0

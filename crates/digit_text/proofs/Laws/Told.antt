@@ -74,7 +74,7 @@ module _ (t : List ℕ) (e : ℤ) where
   read_place = go (read_check t e)
     where
       go : (o : Outcome) → (after (read_refused t) o (read_answer (round_bit_done (read_word t e)))).place ≡ place_of t o
-      go (Ok tt) = refl
+      go (Ok _) = refl
       go (Err c) = refl
 
   tested : let o = read_check t e in
@@ -134,7 +134,7 @@ module _ (t : List ℕ) (e : ℤ) where
   none_told b r = read_place ∙ untold (read_check t e) (λ d. b (read_outcome ∙ d)) (λ d. r (read_outcome ∙ d))
     where
       untold : (o : Outcome) → (o ≡ Refused Byte → ⊥) → (o ≡ Refused DigitText → ⊥) → place_of t o ≡ 0
-      untold (Ok tt) b r = refl
+      untold (Ok _) b r = refl
       untold (Err c) b r =
           rw (ne_eqb (cause_number c) 13 (λ d. b (ap Refused (cause_one c Byte d))), ne_eqb (cause_number c) 9 (λ d. r (ap Refused (cause_one c DigitText d))))
 

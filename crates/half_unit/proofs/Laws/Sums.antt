@@ -149,7 +149,7 @@ unfolding sum_even_word sum_up_word
 sum_same_outcome x y = go (sum_check x y) refl
   where
     go : (o : Outcome) → sum_check x y ≡ o → (o and_then half_unit_fitted (sum_even_word x y)).outcome ≡ (o and_then half_unit_fitted (sum_up_word x y)).outcome
-    go (Ok tt) c =
+    go (Ok _) c =
         let s = (sum_up_word x y).number.0 in
         let n = x.format.width in
         rw (fitted_outcome (sum_even_word x y), fitted_outcome (sum_up_word x y), fits_cleared s n (sum_tells x y c).0.format.narrow)

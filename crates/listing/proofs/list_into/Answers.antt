@@ -28,7 +28,7 @@ tells text = eqb (get_or text 0 0) 114
 first_of : (o : Outcome) (h : Head) (x : ℕ → ℤ) (r : ℕ → ℕ) (more : List ℕ) →
     (tells (listed o h x r ++ more) ≡ false → o ≡ Done) × (o ≡ Done → tells (listed o h x r ++ more) ≡ false)
 unfolding listed head_line refused_line
-first_of (Ok tt) h x r more = (λ e. refl, λ e. simp append_assoc (first-of-kind _ _))
+first_of (Ok _) h x r more = (λ e. refl, λ e. simp append_assoc (first-of-kind _ _))
 first_of (Err c) h x r more = (λ e. cc, λ e. cc)
 
 module _ (file text : List ℕ) (long : length text ≡ longest_listing) where

@@ -18,7 +18,7 @@ passed c true e = absurd (refused_not_done e)
 passed c false e = refl
 
 pub both_passed : (o p : Outcome) → (o or_else p) ≡ Done → (o ≡ Done) × (p ≡ Done)
-both_passed (Ok tt) p e = (refl, e)
+both_passed (Ok _) p e = (refl, e)
 both_passed (Err c) p e = absurd (refused_not_done e)
 
 pub three_passed : (o p q : Outcome) → (o or_else p or_else q) ≡ Done → (o ≡ Done) × (p ≡ Done) × (q ≡ Done)

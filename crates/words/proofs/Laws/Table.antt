@@ -24,7 +24,7 @@ every test (c ∷ more) = test c && every test more
 
 -- the cause of a refusal, and some other of done
 abbrev pub found : Cause → Outcome → Cause
-found d (Ok tt) = d
+found d (Ok _) = d
 found d (Err c) = c
 
 module _ (test : Cause → Bool) where

@@ -1,8 +1,0 @@
-use mathlib.Core.Path.{ap}
-use Prim.Native.Nat.{ℕ, ◌+◌}
-use Rattle.binary64.specs.Parts.{nearest_of}
-use Rattle.binary64.proofs.nearest.Goals as goal
-
-pub returns : goal.returns
-unfolding nearest_of
-returns c = ap (λ (n : ℕ). c.args.p.whole + n) c.goes_up.ensures
