@@ -1,37 +1,37 @@
 -- The leftmost place in a text that a test holds of, and the tests of the two faults: what a turn of their searches asks, what a check finds,
 -- and what a passed check tells. Assumes nothing.
 -- Proved here: `leftmost_holds`, `leftmost_before`, `found_leftmost`, `not_found`, `leftmost_none`, `leftmost_at`, `leftmost_found`,
--- `leftmost_not_found`, `strange_position`, `repeats_is`, `fault_free`, `free_fault`, `searched`, `byte_finding`,
--- `repeat_finding`, `format_place`, `place_fits`, `read_right`.
-use Rattle.std.specs.Prelude.{Ok, Err}
+-- `leftmost_not_found`, `strange_position`, `repeats_is`, `fault_free`, `free_fault`, `found_small`, `byte_told`,
+-- `repeat_told`, `format_told`, `read_right`, `ok_told`, `err_told`, `err_first`, `answer_told`.
+use Rattle.std.specs.Prelude.{Result, Ok, Err}
 use Prim.Native.Nat.{ℕ, ◌≤◌, ◌<◌}
 use native.Mathlib.Omega.{arith}
-use mathlib.Core.Path.{◌≡◌, refl, sym, ap, ◌∙◌}
+use mathlib.Core.Path.{◌≡◌, refl, sym, ap}
 use mathlib.Core.Bool.{Bool, true, false, not, cond, ◌&&◌, ◌||◌}
 use mathlib.Core.List.{List}
 use lib.Dec.{eqb}
 use lib.IntN.{ℤ}
 use lib.ListN.{length, get_or}
-use Rattle.std.specs.Prelude.{Option, Some, None, is_some}
+use Rattle.std.specs.Prelude.{Some, None}
 use Rattle.std.specs.Option.{unwrap_or}
 use Rattle.std.specs.List.{position_or_len}
 use Rattle.std.proofs.lemmas.List.Sums.{position_or_len_is}
 use borrow.Author.Tests.{ltb-true, lt-ltb, le-ltb, not-true, not-false}
 use Rattle.integers.proofs.Found.{none_found}
 use Rattle.integers.proofs.Lists.{first_bad_le, first_bad_most, first_bad_before, first_bad_at, first_bad_none, first_bad_fails}
-use Rattle.words.specs.Refusals.{number_of, refuse_for, ◌or_else◌, format_check}
+use Rattle.words.specs.Refusals.{refuse_for, ◌or_else◌, format_check, after}
 use Rattle.words.specs.Words.{bad_width, bad_unit}
 use Rattle.words.specs.Formats.{format}
-use Rattle.words.specs.declared.Cause.{Cause}
-use Rattle.words.specs.declared.Cause.TheVariants.{Width, Unit, Byte, DigitText}
+use Rattle.words.specs.declared.Cause.TheVariants.{Width, Unit as BadUnit, Byte, DigitText}
 use Rattle.words.specs.declared.Format.{Format}
-use Rattle.words.specs.Outcomes.{Outcome}
-use Rattle.words.specs.Outcomes.{Done, Refused}
-use Rattle.words.proofs.Laws.{RightFormat, right_format, refused_not_done, both_passed, passed, or-false}
-use Rattle.digit_text.specs.declared.Finding.{Finding}
+use Rattle.words.specs.Outcomes.{Outcome, Done}
+use Rattle.words.specs.Kinds.{RoundBitWord}
+use Rattle.words.specs.RoundBit.{round_bit_done}
+use Rattle.words.proofs.Laws.{RightFormat, right_format, both_passed, passed, or-false}
+use Rattle.digit_text.specs.declared.Fault.{Fault}
 use Rattle.digit_text.specs.Digits.{none, sign_before}
 use Rattle.digit_text.specs.Reading.{strange, strange_at, repeats_at, leftmost, strange_place, repeat_place, found, if_found}
-use Rattle.digit_text.specs.Reading.{fault_check, read_check, place_of, finding}
+use Rattle.digit_text.specs.Reading.{fault_check, read_check, place_of, fault_at, telling, read_answer, read_refused, answer_of}
 use Rattle.digit_text.proofs.Scan.{get_d_any}
 
 -- ---- the leftmost place that a test holds of
@@ -95,67 +95,51 @@ pub free_fault : (t : List ℕ) → faulty t ≡ false → fault_check t ≡ Don
 unfolding fault_check
 free_fault t e = let p = or-false (found (strange_place t) t) (found (repeat_place t) t) e in rw (p.0, p.1)
 
--- ---- what a check finds, in the arms of its match: a fault of the first place, or what is found of the second
-abbrev pub fault_at : Cause → List ℕ → ℕ → Finding
-fault_at c t k = record { outcome = refuse_for c (found k t); place = cond (found k t) k 0 }
-
--- so it is of the place that a search answers
-pub searched : (t : List ℕ) (c : Cause) (k : ℕ) (o : Option ℕ) (f : Finding) → f ≡ record { outcome = refuse_for c (is_some o); place = unwrap_or o 0 } →
-    o ≡ if_found k t → f ≡ fault_at c t k
-searched t c k o f e g = e ∙ rw g (go (found k t))
+-- ---- a place that is found is one of the text
+pub found_small : (t : List ℕ) (k n : ℕ) → length t ≤ n → unwrap_or (if_found k t) 0 ≤ n
+found_small t k n h = go (found k t) refl
   where
-    go : (b : Bool) → ◌≡◌ {A = Finding} (record { outcome = refuse_for c (is_some (cond b (Some k) None)); place = unwrap_or (cond b (Some k) None) 0 })
-        (record { outcome = refuse_for c b; place = cond b k 0 })
-    go true = refl
-    go false = refl
+    go : (b : Bool) → found k t ≡ b → unwrap_or (cond b (Some k) None) 0 ≤ n
+    go true e = omega (arith, ltb-true k (length t) e, h)
+    go false e = omega arith
 
-pub byte_finding : (t : List ℕ) (c : Cause) → (fault_at Byte t (strange_place t)).outcome ≡ Refused c →
-    fault_at Byte t (strange_place t) ≡ finding t (fault_check t)
+-- ---- what the two searches tell: the fault of the first, and where it finds none that of the second
+abbrev pub told : List ℕ → Outcome → Result Unit Fault
+told t o = telling t o tt
+
+pub byte_told : (t : List ℕ) (f : Fault) → ◌≡◌ {A = Result Unit Fault} (Err f) (fault_at Byte (if_found (strange_place t) t)) → Err f ≡ told t (fault_check t)
 unfolding fault_check place_of
-byte_finding t c = go (found (strange_place t) t) refl
+byte_told t f = go (found (strange_place t) t)
   where
-    go : (b : Bool) → found (strange_place t) t ≡ b → refuse_for Byte b ≡ Refused c →
-        record { outcome = refuse_for Byte b; place = cond b (strange_place t) 0 } ≡ finding t (fault_check t)
-    go true e o = rw e
-    go false e o = absurd (refused_not_done (sym o))
+    go : (b : Bool) → ◌≡◌ {A = Result Unit Fault} (Err f) (fault_at Byte (cond b (Some (strange_place t)) None)) →
+        Err f ≡ told t (refuse_for Byte b or_else refuse_for DigitText (found (repeat_place t) t))
+    go true e = e
+    go false e = absurd cc
 
-pub repeat_finding : (t : List ℕ) → (fault_at Byte t (strange_place t)).outcome ≡ Done → fault_at DigitText t (repeat_place t) ≡ finding t (fault_check t)
+pub repeat_told : (t : List ℕ) → ◌≡◌ {A = Result Unit Fault} (Ok tt) (fault_at Byte (if_found (strange_place t) t)) →
+    fault_at DigitText (if_found (repeat_place t) t) ≡ told t (fault_check t)
 unfolding fault_check place_of
-repeat_finding t d = go (found (repeat_place t) t) refl
+repeat_told t = go (found (strange_place t) t) (found (repeat_place t) t)
   where
-    go : (b : Bool) → found (repeat_place t) t ≡ b → record { outcome = refuse_for DigitText b; place = cond b (repeat_place t) 0 } ≡ finding t (fault_check t)
-    go true e = rw (d, e)
-    go false e = rw (d, e)
+    go : (b c : Bool) → ◌≡◌ {A = Result Unit Fault} (Ok tt) (fault_at Byte (cond b (Some (strange_place t)) None)) →
+        fault_at DigitText (cond c (Some (repeat_place t)) None) ≡ told t (refuse_for Byte b or_else refuse_for DigitText c)
+    go true c e = absurd cc
+    go false true e = refl
+    go false false e = refl
 
--- ---- 1 and 2 tell no place, and no place passes the longest text
-pub format_place : (t : List ℕ) (f : Format) → place_of t (format_check f) ≡ 0
+-- ---- 1 and 2 tell no place
+abbrev pub untold : {A : Type 0} → Outcome → A → Result A Fault
+untold (Ok _) a = Ok a
+untold (Err c) a = Err (record { cause = c; place = 0 })
+
+pub format_told : {A : Type 0} (t : List ℕ) (f : Format) (a : A) → telling t (format_check f) a ≡ untold (format_check f) a
 unfolding format_check place_of
-format_place t f = go (bad_width f.width) (bad_unit f.unit)
+format_told t f a = go (bad_width f.width) (bad_unit f.unit)
   where
-    go : (w u : Bool) → place_of t (refuse_for Width w or_else refuse_for Unit u) ≡ 0
+    go : (w u : Bool) → telling t (refuse_for Width w or_else refuse_for BadUnit u) a ≡ untold (refuse_for Width w or_else refuse_for BadUnit u) a
     go true u = refl
     go false true = refl
     go false false = refl
-
-place_le : (t : List ℕ) (o : Outcome) → place_of t o ≤ length t
-unfolding place_of strange_place repeat_place
-place_le t o = go (eqb (number_of o) 13) (eqb (number_of o) 9)
-  where
-    go : (b c : Bool) → cond b (strange_place t) (cond c (repeat_place t) 0) ≤ length t
-    go true c = leftmost_le t (strange_at t)
-    go false true = leftmost_le t (repeats_at t)
-    go false false = omega arith
-
-pub place_fits : (t : List ℕ) (e : ℤ) → place_of t (read_check t e) ≤ 63
-unfolding read_check
-place_fits t e = go (format_check f) refl
-  where
-    f : Format
-    f = format (length t) e
-
-    go : (o : Outcome) → format_check f ≡ o → place_of t (o or_else fault_check t) ≤ 63
-    go (Ok _) d = omega (arith, place_le t (fault_check t), (right_format f d).wide)
-    go (Err c) d = let none_told = rw d at (format_place t f) in rw none_told (omega arith)
 
 -- ---- what a passed check of a reading tells
 pub read_right : (t : List ℕ) (e : ℤ) → read_check t e ≡ Done → RightFormat (format (length t) e) × (faulty t ≡ false)
@@ -163,3 +147,21 @@ unfolding read_check
 read_right t e d =
     let p = both_passed (format_check (format (length t) e)) (fault_check t) d in
     (right_format (format (length t) e) p.0, fault_free t p.1)
+
+-- ---- what is known behind a `?`: the check passed, and that is what was given; or its fault is that of any checks that it begins
+pub ok_told : {A : Type 0} (t : List ℕ) (o : Outcome) (a b : A) → Ok b ≡ telling t o a → (o ≡ Done) × (b ≡ a)
+ok_told t (Ok tt) a b e = (refl, cc)
+ok_told t (Err c) a b e = absurd cc
+
+pub err_told : {A B : Type 0} (t : List ℕ) (o : Outcome) (a : A) (b : B) (f : Fault) → Err f ≡ telling t o a → Err f ≡ telling t o b
+err_told t (Ok tt) a b f e = absurd cc
+err_told t (Err c) a b f e = cc
+
+pub err_first : {A B : Type 0} (t : List ℕ) (o p : Outcome) (a : A) (b : B) (f : Fault) → Err f ≡ telling t o a → Err f ≡ telling t (o or_else p) b
+err_first t (Ok tt) p a b f e = absurd cc
+err_first t (Err c) p a b f e = cc
+
+-- ---- what a word or a fault is answered by
+pub answer_told : (t : List ℕ) (o : Outcome) (w : RoundBitWord) → answer_of (telling t o w) ≡ after (read_refused t) o (read_answer (round_bit_done w))
+answer_told t (Ok tt) w = refl
+answer_told t (Err c) w = refl

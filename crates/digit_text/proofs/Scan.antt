@@ -1,33 +1,32 @@
 -- Facts about texts and their digits, for the functions and the laws: a digit's byte, what one byte more does to a text's value and to the
--- sign before the next place, how large the value can be, and what a passed check of a writing tells. Assumes nothing.
+-- sign before the next place, how large the value can be, and what a writing leaves of the buffer. Assumes nothing.
 -- Proved here: `byte_plus`, `byte_minus`, `byte_none`, `digit_range`, `get_d_any`, `value_append`, `value_next`, `value_range`,
--- `value_small`, `sign_kept`, `sign_taken`, `lowest_plus`, `bit_le`, `round_le`, `write_right`, `write_room`.
+-- `value_small`, `sign_kept`, `sign_taken`, `lowest_plus`, `bit_le`, `round_le`, `buffer_is`.
 use Prim.Native.Nat.{ℕ, zero, suc, ◌+◌, ◌*◌, ◌-◌, ◌^◌, ◌≤◌, ◌<◌}
 use native.Mathlib.Nat.{not-suc-le-zero, le_of_suc-le-suc, lt_of_lt_of_le, mul-le-mul_right, pow-succ'}
 use native.Mathlib.Numerals.{add-one}
 use native.Mathlib.Omega.{arith}
 use mathlib.Core.Path.{◌≡◌, refl, sym, ◌∙◌}
-use Rattle.std.specs.Prelude.{Option, Some, find, reverse}
+use Rattle.std.specs.Prelude.{Option, Some, Ok, Err, find, reverse}
 use Rattle.std.specs.Option.{option_eq}
 use Rattle.std.proofs.lemmas.List.{reverse-append}
 use mathlib.Core.Bool.{Bool, true, false, not, cond}
 use mathlib.Core.List.{List, [], ◌∷◌, ◌++◌}
-use lib.Dec.{eqb, ltb}
+use lib.Dec.{eqb}
 use lib.IntN.{ℤ, pos, negsuc, nat_abs, ◌+ℤ◌, ◌*ℤ◌, zero-*ℤ, +ℤ_idl, +ℤ_assoc}
 use lib.Signed.{lt_z}
 use lib.ListN.{length, get_or, take, length-append}
 use lib.Pow.{pow-add, pow_mono}
 use lib.Seq.{take-suc, take-length}
-use borrow.Author.Tests.{ltb-false, not-true, not-false}
+use borrow.Author.Tests.{not-true, not-false}
 use Rattle.integers.proofs.Kit.{up, down, ints, plus_law, times_law, abs_law, one_zero, lt_true, lt_false}
 use Rattle.integers.proofs.Times.{plus_times, times_assoc}
-use Rattle.words.specs.Refusals.{refuse_for}
-use Rattle.words.specs.RoundBit.{round_bit_check}
-use Rattle.words.specs.declared.Cause.TheVariants.{Buffer}
-use Rattle.words.specs.Outcomes.{Done}
+use Rattle.integers.specs.Lists.{over, tab}
+use Rattle.integers.proofs.Lists.{over_front}
+use Rattle.words.specs.Refusals.{lent_after, after}
+use Rattle.words.specs.Outcomes.{Outcome}
 use Rattle.words.specs.Kinds.{RoundBitWord}
-use Rattle.words.proofs.Laws.{both_passed, passed}
-use Rattle.digit_text.specs.Digits.{plus, none, minus, byte_of, digit_of, text_value, sign_before, write_check}
+use Rattle.digit_text.specs.Digits.{plus, none, minus, byte_of, digit_of, byte_at, text, text_value, sign_before, write_check, buffer_of}
 use Rattle.digit_text.specs.Reading.{read_round}
 
 -- ---- a digit and its byte
@@ -138,13 +137,11 @@ pub round_le : (t : List ℕ) → read_round t ≤ 1
 unfolding read_round
 round_le t = bit_le (eqb (sign_before t (length t)) plus)
 
--- ---- what a passed check of a writing tells: the word is right, and there is room for the text
-pub write_right : (w : RoundBitWord) (room : ℕ) → write_check w room ≡ Done → round_bit_check w ≡ Done
-unfolding write_check
-write_right w room d = (both_passed (round_bit_check w) (refuse_for Buffer (ltb room w.format.width)) d).0
-
-pub write_room : (w : RoundBitWord) (room : ℕ) → write_check w room ≡ Done → w.format.width ≤ room
-unfolding write_check
-write_room w room d =
-    let short = ltb room w.format.width in
-    ltb-false room w.format.width (passed Buffer short (both_passed (round_bit_check w) (refuse_for Buffer short) d).1)
+-- ---- what a writing leaves of the buffer
+pub buffer_is : (w : RoundBitWord) (old : List ℕ) → buffer_of w old ≡ after (λ c. old) (write_check w (length old)) (over w.format.width (byte_at w) old)
+unfolding buffer_of text lent_after
+buffer_is w old = go (write_check w (length old))
+  where
+    go : (o : Outcome) → lent_after o (tab w.format.width (byte_at w)) old ≡ after (λ c. old) o (over w.format.width (byte_at w) old)
+    go (Ok tt) = sym (over_front w.format.width (byte_at w) old)
+    go (Err c) = refl

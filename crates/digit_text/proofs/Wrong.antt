@@ -11,7 +11,6 @@ use Rattle.integers.specs.Numbers.{fits_width, floor_by, lowest, digit}
 use Rattle.integers.specs.Lists.{first_bad, all}
 use Rattle.integers.specs.Bytes.{same_bytes}
 use Rattle.words.specs.Refusals.{number_of, format_check, word_check, lent_after, write_answer}
-use Rattle.words.specs.RoundBit.{round_bit_check}
 use Rattle.words.specs.Flat.{Flat, flat, laid_flat, same_flat, round_bit_at as at, done, refused}
 use Rattle.words.specs.Kinds.{RoundBitWord}
 use Rattle.digit_text.specs.Digits.{plus, none, minus, signed_digit, byte_of, digit_of, byte_at, text, text_value, sign_before, write_check, write_of}

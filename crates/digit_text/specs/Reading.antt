@@ -1,6 +1,6 @@
 -- Document 01, "Digit text": reading back; and document 02, Ask 3: "Say which digit is wrong."
 use Rattle.std.specs.Prelude.{ℕ, Bool, not, cond, ◌&&◌, ◌||◌, List, eqb, ltb, ℤ, pos, ◌-ℤ◌}
-use Rattle.std.specs.Prelude.{length, get_or, Option, Some, None}
+use Rattle.std.specs.Prelude.{length, get_or, Option, Some, None, Result, Ok, Err}
 use Rattle.integers.specs.Names.{first_bad}
 use Rattle.words.specs.declared.Cause.{Cause}
 use Rattle.words.specs.Outcomes.{Outcome}
@@ -9,7 +9,7 @@ use Rattle.words.specs.Kinds.{RoundBitAnswer}
 use Rattle.words.specs.Refusals.{number_of, refuse, ◌or_else◌, format_check, after}
 use Rattle.words.specs.Formats.{format}
 use Rattle.words.specs.RoundBit.{round_bit_word, round_bit_done, round_bit_refused}
-use Rattle.digit_text.specs.declared.Finding.{Finding}
+use Rattle.digit_text.specs.declared.Fault.{Fault}
 use Rattle.digit_text.specs.declared.ReadAnswer.{ReadAnswer}
 use Rattle.digit_text.specs.Digits.{plus, none, minus, text_value, sign_before}
 
@@ -63,9 +63,15 @@ place_of t o =
     let n = number_of o in
     cond (eqb n 13) (strange_place t) (cond (eqb n 9) (repeat_place t) 0)
 
--- what a check of the text finds: its outcome, and the place that this tells
-abbrev pub finding : List ℕ → Outcome → Finding
-finding t o = record { outcome = o; place = place_of t o }
+-- a check's refusal, with the place that it tells, if there is one, and else a value
+abbrev pub telling : {A : Type 0} → List ℕ → Outcome → A → Result A Fault
+telling t (Ok _) a = Ok a
+telling t (Err c) a = Err (record { cause = c; place = place_of t (Err c) })
+
+-- a cause with the place that was found, if one was
+abbrev pub fault_at : Cause → Option ℕ → Result Unit Fault
+fault_at c None = Ok tt
+fault_at c (Some k) = Err (record { cause = c; place = k })
 
 -- below the lowest nonzero digit all digits of a are r, so r is 1 where that digit is `+`. "All
 -- zeros reads as (0,0)"
@@ -89,3 +95,9 @@ read_refused t c =
 
 unfoldable pub read_of : List ℕ → ℤ → ReadAnswer
 read_of t e = after (read_refused t) (read_check t e) (read_answer (round_bit_done (read_word t e)))
+
+-- the answer that is made of a word, or of a fault
+abbrev pub answer_of : Result RoundBitWord Fault → ReadAnswer
+answer_of (Ok w) = read_answer (round_bit_done w)
+answer_of (Err f) =
+    record { outcome = Err f.cause; word = (round_bit_refused f.cause).word; place = f.place }

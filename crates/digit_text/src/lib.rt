@@ -9,17 +9,19 @@
 // only a text without either makes a word.
 #![tactic(auto)]
 
-ghost use Rattle.std.specs.Prelude.{◌≡◌, not, ◌&&◌, ◌≤◌, eqb, is_some, unwrap_or, pos, ◌+ℤ◌, ◌-ℤ◌, ◌*ℤ◌, length, find, reverse};
+ghost use Rattle.std.specs.Prelude.{◌≡◌, not, ◌&&◌, ◌≤◌, eqb, unwrap_or, pos, ◌+ℤ◌, ◌-ℤ◌, ◌*ℤ◌, length, find, reverse};
 ghost use Rattle.integers.specs.Numbers.{digit};
 ghost use Rattle.integers.specs.Lists.{over};
 ghost use Rattle.words.specs.Words.{most_width};
-ghost use Rattle.words.specs.Refusals.{refuse_for, format_check};
+ghost use Rattle.words.specs.Outcomes.{Done, given};
+ghost use Rattle.words.specs.Refusals.{format_check};
 ghost use Rattle.words.specs.Formats.{format};
-ghost use Rattle.words.specs.RoundBit.{round_bit_check, round_bit_refused};
+ghost use Rattle.words.specs.RoundBit.{round_bit_check};
 ghost use Rattle.digit_text.specs.Digits.{none, byte_of, digit_of, byte_at, text_value, write_check, write_of, buffer_of};
-ghost use Rattle.digit_text.specs.Reading.{strange, strange_place, repeat_place, if_found, fault_check, read_check, finding, read_round, read_word, read_of};
+ghost use Rattle.digit_text.specs.Reading.{strange, strange_place, repeat_place, if_found, fault_at, telling};
+ghost use Rattle.digit_text.specs.Reading.{fault_check, read_check, read_round, read_word, answer_of, read_of};
 
-use words::{Cause, Format, Outcome, RoundBit, RoundBitWord, WriteAnswer};
+use words::{Cause, Format, Outcome, RoundBit, RoundBitWord, Word, WriteAnswer, refuse_for};
 
 // The answer of a reading. The place is of the byte that a 13 or a 9 is for, counted from 0 at the most
 // significant end; it is 0 with every other answer.
@@ -28,16 +30,6 @@ pub struct ReadAnswer {
     pub outcome: Outcome,
     pub word: RoundBitWord,
     pub place: u32,
-}
-
-fn write_check(w: RoundBitWord, room: usize) -> Outcome
-    ensures { result ≡ write_check w room }
-{
-    if let Outcome::Refused(c) = words::round_bit_check(w) {
-        Outcome::Refused(c)
-    } else {
-        words::refuse_for(Cause::Buffer, room < (w.format.width as usize))
-    }
 }
 
 // A text is written by the picture of document 000, section 3.1, equation (1), with the round bit of its
@@ -54,7 +46,7 @@ fn write_check(w: RoundBitWord, room: usize) -> Outcome
 
 // The top row: 2a + r.
 fn doubled(w: RoundBitWord) -> i64
-    requires { round_bit_check w ≡ Outcome.Done }
+    requires { round_bit_check w ≡ Done }
     ensures { result ≡ (pos 2 *ℤ w.number.0) +ℤ pos w.number.1 }
 {
     let r: u8 = w.number.1;
@@ -83,7 +75,7 @@ fn byte_of(d: i64) -> u8
 // Fills the first n bytes; the most significant digit stands in the first. The picture is taken column by column
 // from the right, and each is then struck off both rows.
 fn put_text(w: RoundBitWord, n: usize, text: &mut [u8])
-    requires { (round_bit_check w ≡ Outcome.Done) × (n ≡ w.format.width) × (n ≤ length text.old) }
+    requires { (round_bit_check w ≡ Done) × (n ≡ w.format.width) × (n ≤ length text.old) }
     ensures { text.new ≡ over n (byte_at w) text.old }
 {
     let mut top_row = doubled(w);
@@ -95,24 +87,24 @@ fn put_text(w: RoundBitWord, n: usize, text: &mut [u8])
     }
 }
 
+// The bytes that were written: none before 1, 2, 3 and 10 are behind it.
+#[tactic(auto, using(crate::proofs::Scan::buffer_is), unfolding(crate::specs::Digits::write_check))]
+fn written(w: RoundBitWord, text: &mut [u8]) -> Result<usize, Cause>
+    ensures { (result ≡ given (write_check w (length text.old)) w.format.width) × (text.new ≡ buffer_of w text.old) }
+{
+    w.check()?;
+    let n = w.format.width as usize;
+    refuse_for(Cause::Buffer, text.len() < n)?;
+    put_text(w, n, text);
+    Ok(n)
+}
+
 // Writes the word's digits into the front of the buffer.
+#[tactic(auto, unfolding(crate::specs::Digits::write_of, words::specs::Refusals::write_answer))]
 pub fn write(w: RoundBitWord, text: &mut [u8]) -> WriteAnswer
     ensures { (result ≡ write_of w (length text.old)) × (text.new ≡ buffer_of w text.old) }
 {
-    match write_check(w, text.len()) {
-        Outcome::Refused(c) => WriteAnswer {
-            outcome: Outcome::Refused(c),
-            count: 0,
-        },
-        Outcome::Done => {
-            let n = w.format.width as usize;
-            put_text(w, n, text);
-            WriteAnswer {
-                outcome: Outcome::Done,
-                count: n,
-            }
-        }
-    }
+    written(w, text).into()
 }
 
 // Is it none of the three bytes?
@@ -160,74 +152,45 @@ fn repeat_place(text: &[u8]) -> Option<usize>
     None
 }
 
-// What a check finds: its outcome, and the place that it tells, 0 where it tells none.
+// Why a text is refused, and the place that this tells, 0 where it tells none.
 #[derive(Clone, Copy)]
-struct Finding {
-    outcome: Outcome,
-    place: usize,
+struct Fault {
+    cause: Cause,
+    place: u32,
 }
 
-// The fault at the place that was found, and where none was done.
-fn fault_at(c: Cause, found: Option<usize>) -> Finding
-    ensures { result ≡ record { outcome = refuse_for c (is_some found); place = unwrap_or found 0 } }
+// The fault at the place that was found, where one was.
+fn fault_at(cause: Cause, found: Option<usize>) -> Result<(), Fault>
+    requires { unwrap_or found 0 ≤ most_width }
+    ensures { result ≡ fault_at cause found }
 {
-    Finding {
-        outcome: words::refuse_for(c, found.is_some()),
-        place: found.unwrap_or(0),
+    match found {
+        Some(place) => Err(Fault {
+            cause,
+            place: place as u32,
+        }),
+        None => Ok(()),
     }
 }
 
 // 13, then 9.
-fn fault_check(text: &[u8]) -> Finding
-    ensures { result ≡ finding text.now (fault_check text.now) }
+fn fault_check(text: &[u8]) -> Result<(), Fault>
+    requires { length text.now ≤ most_width }
+    ensures { result ≡ telling text.now (fault_check text.now) tt }
 {
-    let byte = fault_at(Cause::Byte, strange_place(text));
-    let o = byte.outcome;
-    match o {
-        Outcome::Refused(c) => byte,
-        Outcome::Done => fault_at(Cause::DigitText, repeat_place(text)),
-    }
+    fault_at(Cause::Byte, strange_place(text))?;
+    fault_at(Cause::DigitText, repeat_place(text))
 }
 
-// The ends of the widths, in the type of a length.
-const LEAST_WIDTH: usize = words::LEAST_WIDTH as usize;
-
-const MOST_WIDTH: usize = words::MOST_WIDTH as usize;
-
-// 1 of the length, which is the width, then 2.
-fn format_check(n: usize, unit: i32) -> Outcome
-    ensures { result ≡ format_check (format n unit) }
+// The format of a text, whose width is its length, or 1 or 2. No length past a u32 is a width, and nor is the greatest u32.
+#[tactic(auto, using(crate::proofs::Places::format_told), unfolding(words::specs::Refusals::format_check))]
+fn format_of(text: &[u8], unit: i32) -> Result<Format, Fault>
+    ensures { let f = format (length text.now) unit in result ≡ telling text.now (format_check f) f }
 {
-    if let Outcome::Refused(c) = words::refuse_for(
-        Cause::Width,
-        !((LEAST_WIDTH <= n) & (n <= MOST_WIDTH)),
-    ) {
-        Outcome::Refused(c)
-    } else {
-        words::refuse_for(
-            Cause::Unit,
-            !((words::LEAST_UNIT <= unit) & (unit <= words::MOST_UNIT)),
-        )
-    }
-}
-
-fn refused_at(c: Cause, place: usize) -> Finding
-    ensures { result ≡ record { outcome = Outcome.Refused c; place = place } }
-{
-    Finding {
-        outcome: Outcome::Refused(c),
-        place,
-    }
-}
-
-fn read_check(text: &[u8], unit: i32) -> Finding
-    ensures { result ≡ finding text.now (read_check text.now unit) }
-{
-    let n = text.len();
-    match format_check(n, unit) {
-        Outcome::Refused(c) => refused_at(c, 0),
-        Outcome::Done => fault_check(text),
-    }
+    let width = u32::try_from(text.len()).unwrap_or(u32::MAX);
+    let format = Format { width, unit };
+    format.check().map_err(|cause| Fault { cause, place: 0 })?;
+    Ok(format)
 }
 
 // 1, -1 or 0.
@@ -268,53 +231,43 @@ fn read_round(text: &[u8]) -> u8
     u8::from(lowest_sign(text) == Some(b'+'))
 }
 
-fn read_word(text: &[u8], unit: i32) -> RoundBitWord
-    requires { read_check text.now unit ≡ Outcome.Done }
-    ensures { result ≡ read_word text.now unit }
+// The word of a text.
+fn read_word(text: &[u8], unit: i32) -> Result<RoundBitWord, Fault>
+    ensures { result ≡ telling text.now (read_check text.now unit) (read_word text.now unit) }
 {
+    let format = format_of(text, unit)?;
+    fault_check(text)?;
     let round = read_round(text);
     let number = text_value(text) - i64::from(round);
-    let width = text.len() as u32;
-    RoundBitWord {
+    Ok(Word {
         number: RoundBit(number, round),
-        format: Format {
-            width,
-            unit,
-        },
-    }
+        format,
+    })
 }
 
-fn read_refused(c: Cause, place: u32) -> ReadAnswer
-    ensures { result ≡ record { outcome = Outcome.Refused c; word = (round_bit_refused c).word; place = place } }
-{
-    let a = words::round_bit_refused(c);
-    let blank = a.word;
-    ReadAnswer {
-        outcome: Outcome::Refused(c),
-        word: blank,
-        place,
-    }
-}
+impl From<Result<RoundBitWord, Fault>> for ReadAnswer {
+    ghost from_gives = { λ r a. a ≡ answer_of r };
 
-fn read_done(w: RoundBitWord) -> ReadAnswer
-    ensures { result ≡ record { outcome = Outcome.Done; word = w; place = 0 } }
-{
-    ReadAnswer {
-        outcome: Outcome::Done,
-        word: w,
-        place: 0,
+    fn from(read: Result<RoundBitWord, Fault>) -> ReadAnswer {
+        match read {
+            Ok(word) => ReadAnswer {
+                outcome: Ok(()),
+                word,
+                place: 0,
+            },
+            Err(fault) => ReadAnswer {
+                outcome: Err(fault.cause),
+                word: Word::blank(),
+                place: fault.place,
+            },
+        }
     }
 }
 
 // Reads a text back: its length is the width.
+#[tactic(auto, using(crate::proofs::Places::answer_told), unfolding(crate::specs::Reading::read_of))]
 pub fn read(text: &[u8], unit: i32) -> ReadAnswer
     ensures { result ≡ read_of text.now unit }
 {
-    let found = read_check(text, unit);
-    let o = found.outcome;
-    let place = found.place as u32;
-    match o {
-        Outcome::Refused(c) => read_refused(c, place),
-        Outcome::Done => read_done(read_word(text, unit)),
-    }
+    read_word(text, unit).into()
 }
