@@ -10,11 +10,10 @@
 
 ghost use Rattle.std.specs.Prelude.{◌^◌, ◌<◌, ◌≤◌};
 
-use round_bit::{CutAnswer, EvenCutAnswer};
 use std::{fmt, io};
 use words::{
-    Format, HalfUnit, HalfUnitAnswer, HalfUnitWord, Outcome, Plain, PlainWord, RoundBit,
-    RoundBitAnswer, RoundBitWord,
+    Answer, CutAnswer, Digits, Format, HalfUnit, HalfUnitWord, Outcome, Plain, PlainWord,
+    RoundBit, RoundBitWord, Word,
 };
 
 // A word, as a line shows it.
@@ -25,22 +24,12 @@ struct Shown {
     format: Format,
 }
 
-impl From<RoundBitWord> for Shown {
-    fn from(w: RoundBitWord) -> Shown {
+// A word of a kind that has no round bit has a 0 in its place.
+impl<N: Digits> From<Word<N>> for Shown {
+    fn from(w: Word<N>) -> Shown {
         Shown {
-            number: w.number.0,
-            round: w.number.1,
-            format: w.format,
-        }
-    }
-}
-
-// A half-unit word has no round bit; the line has a 0 in its place.
-impl From<HalfUnitWord> for Shown {
-    fn from(w: HalfUnitWord) -> Shown {
-        Shown {
-            number: w.number.0,
-            round: 0,
+            number: w.number.number(),
+            round: w.number.round(),
             format: w.format,
         }
     }
@@ -60,8 +49,8 @@ struct Answered {
     word: Shown,
 }
 
-impl From<RoundBitAnswer> for Answered {
-    fn from(a: RoundBitAnswer) -> Answered {
+impl<N: Digits> From<Answer<N>> for Answered {
+    fn from(a: Answer<N>) -> Answered {
         Answered {
             outcome: a.outcome,
             word: a.word.into(),
@@ -69,26 +58,8 @@ impl From<RoundBitAnswer> for Answered {
     }
 }
 
-impl From<HalfUnitAnswer> for Answered {
-    fn from(a: HalfUnitAnswer) -> Answered {
-        Answered {
-            outcome: a.outcome,
-            word: a.word.into(),
-        }
-    }
-}
-
-impl From<CutAnswer> for Answered {
-    fn from(a: CutAnswer) -> Answered {
-        Answered {
-            outcome: a.outcome,
-            word: a.word.into(),
-        }
-    }
-}
-
-impl From<EvenCutAnswer> for Answered {
-    fn from(a: EvenCutAnswer) -> Answered {
+impl<N: Digits> From<CutAnswer<N>> for Answered {
+    fn from(a: CutAnswer<N>) -> Answered {
         Answered {
             outcome: a.outcome,
             word: a.word.into(),

@@ -6,7 +6,7 @@
 #![tactic(auto)]
 
 use std::io;
-use words::{Format, HalfUnit, HalfUnitWord, Plain, PlainWord, RoundBit, RoundBitWord};
+use words::{Format, HalfUnit, HalfUnitWord, Plain, PlainWord, RoundBit, RoundBitWord, number_of};
 
 const WIDTHS: [u32; 6] = [0, 1, 2, 63, 64, u32::MAX];
 
@@ -35,26 +35,26 @@ const NUMBERS: [i64; 12] = [
 const ROUND_BITS: [u8; 4] = [0, 1, 2, 255];
 
 fn line(rt: &impl Print, format: Format, x: i64) -> io::Result<()> {
-    let plain = words::plain_check(PlainWord {
+    let plain = PlainWord {
         number: Plain(x),
         format,
-    });
-    let half_unit = words::half_unit_check(HalfUnitWord {
+    };
+    let half_unit = HalfUnitWord {
         number: HalfUnit(x),
         format,
-    });
+    };
     print!(rt; "{} {} {x}", format.width, format.unit)?;
     print!(rt;
         " {} {}",
-        words::number_of(plain),
-        words::number_of(half_unit)
+        number_of(plain.check()),
+        number_of(half_unit.check())
     )?;
     for r in ROUND_BITS {
-        let round_bit = words::round_bit_check(RoundBitWord {
+        let round_bit = RoundBitWord {
             number: RoundBit(x, r),
             format,
-        });
-        print!(rt; " {}", words::number_of(round_bit))?;
+        };
+        print!(rt; " {}", number_of(round_bit.check()))?;
     }
     println!(rt)
 }

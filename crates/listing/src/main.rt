@@ -9,6 +9,7 @@ mod whole_io;
 
 ghost use Rattle.std.specs.Prelude.{◌≡◌, ◌≤◌, IfSome, length, take, false};
 ghost use Rattle.io.specs.Counts.{IsPrefixLen};
+ghost use Rattle.words.specs.Outcomes.{Done};
 ghost use Rattle.listing_text.specs.Listing.{listing, list_check};
 ghost use Rattle.listing.specs.Endings.{LeavesListing, read_of};
 
@@ -16,7 +17,6 @@ use listing_text::LONGEST;
 use std::env::Env;
 use std::io::{Error, Read, Write};
 use whole_io::End;
-use words::Outcome;
 
 const ROOM: usize = block_file::LONGEST_FILE + 1;
 
@@ -84,8 +84,8 @@ struct Listed {
 fn list_into(file: &[u8], text: &mut [u8; LONGEST]) -> Listed
     ensures prefix_len { IsPrefixLen result.count text.new }
     ensures text_new { take result.count text.new ≡ listing file.now }
-    ensures file_value { result.refused ≡ false → list_check file.now ≡ Outcome.Done }
-    ensures refused_value { list_check file.now ≡ Outcome.Done → result.refused ≡ false }
+    ensures file_value { result.refused ≡ false → list_check file.now ≡ Done }
+    ensures refused_value { list_check file.now ≡ Done → result.refused ≡ false }
 {
     let a = listing_text::list(file, text);
     // A listing begins with a kind's name, so the first byte tells a refusal from it.

@@ -1,4 +1,0 @@
-use Rattle.frostuldi.proofs.round_bit_out.Goals as goal
-
-pub returns : goal.returns
-returns c = rw (c.number_of.ensures, c.flat_round_bit-word.ensures)

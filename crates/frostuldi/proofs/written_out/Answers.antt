@@ -1,4 +1,0 @@
-use Rattle.frostuldi.proofs.written_out.Goals as goal
-
-pub returns : goal.returns
-returns c = rw c.number_of.ensures
