@@ -12,8 +12,8 @@ ghost use Rattle.std.specs.Prelude.{◌^◌, ◌<◌, ◌≤◌};
 
 use std::{fmt, io};
 use words::{
-    Answer, CutAnswer, Digits, Format, HalfUnit, HalfUnitWord, Outcome, Plain, PlainWord,
-    RoundBit, RoundBitWord, Word,
+    Answer, CutAnswer, Digits, Format, HalfUnit, HalfUnitWord, Outcome, Plain, PlainWord, RoundBit,
+    RoundBitWord, Word,
 };
 
 // A word, as a line shows it.

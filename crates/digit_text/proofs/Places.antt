@@ -150,18 +150,18 @@ read_right t e d =
 
 -- ---- what is known behind a `?`: the check passed, and that is what was given; or its fault is that of any checks that it begins
 pub ok_told : {A : Type 0} (t : List ℕ) (o : Outcome) (a b : A) → Ok b ≡ telling t o a → (o ≡ Done) × (b ≡ a)
-ok_told t (Ok tt) a b e = (refl, cc)
+ok_told t (Ok _) a b e = (refl, cc)
 ok_told t (Err c) a b e = absurd cc
 
 pub err_told : {A B : Type 0} (t : List ℕ) (o : Outcome) (a : A) (b : B) (f : Fault) → Err f ≡ telling t o a → Err f ≡ telling t o b
-err_told t (Ok tt) a b f e = absurd cc
+err_told t (Ok _) a b f e = absurd cc
 err_told t (Err c) a b f e = cc
 
 pub err_first : {A B : Type 0} (t : List ℕ) (o p : Outcome) (a : A) (b : B) (f : Fault) → Err f ≡ telling t o a → Err f ≡ telling t (o or_else p) b
-err_first t (Ok tt) p a b f e = absurd cc
+err_first t (Ok _) p a b f e = absurd cc
 err_first t (Err c) p a b f e = cc
 
 -- ---- what a word or a fault is answered by
 pub answer_told : (t : List ℕ) (o : Outcome) (w : RoundBitWord) → answer_of (telling t o w) ≡ after (read_refused t) o (read_answer (round_bit_done w))
-answer_told t (Ok tt) w = refl
+answer_told t (Ok _) w = refl
 answer_told t (Err c) w = refl

@@ -143,5 +143,5 @@ unfolding buffer_of text lent_after
 buffer_is w old = go (write_check w (length old))
   where
     go : (o : Outcome) → lent_after o (tab w.format.width (byte_at w)) old ≡ after (λ c. old) o (over w.format.width (byte_at w) old)
-    go (Ok tt) = sym (over_front w.format.width (byte_at w) old)
+    go (Ok _) = sym (over_front w.format.width (byte_at w) old)
     go (Err c) = refl
