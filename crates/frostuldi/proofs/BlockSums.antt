@@ -6,7 +6,7 @@ use mathlib.Core.Path.{◌≡◌, refl, sym, ap, subst, ◌∙◌}
 use contract.Lifetimes.{Lfts}
 use borrow.Fn.Kinds.{Dens}
 use Rattle.words.specs.Refusals.{number_of}
-use Rattle.words.specs.declared.{Outcome.{Outcome, TheVariants.Done}}
+use Rattle.words.specs.Outcomes.{Outcome, Done}
 use Rattle.round_bit.specs.Arithmetic.{sum_of}
 use Rattle.round_bit.specs.Groupings.{Grouping, one, both, words_in}
 use Rattle.round_bit.proofs.SumLinks.{SumLinks, a_word, a_sum}

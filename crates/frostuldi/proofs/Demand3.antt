@@ -10,7 +10,9 @@ use mathlib.Core.List.{List, [], ◌∷◌, ◌++◌, map, map-append}
 use lib.IntN.{ℤ, pos, nat_abs, ◌+ℤ◌, ◌-ℤ◌}
 use Rattle.integers.proofs.Chains.{chain_map}
 use Rattle.words.specs.Refusals.{number_of}
-use Rattle.words.specs.declared.{Format.Format, Outcome.{Outcome, TheVariants.Done}, RoundBitWord.RoundBitWord}
+use Rattle.words.specs.declared.Format.{Format}
+use Rattle.words.specs.Outcomes.{Outcome, Done}
+use Rattle.words.specs.Kinds.{RoundBitWord}
 use Rattle.running_sum.specs.declared.{RunningSum.RunningSum, SumAnswer.SumAnswer}
 use Rattle.running_sum.specs.Steps.{Call, open_of, step_of}
 use Rattle.running_sum.specs.Totals.{Answered, taken_in, given_out, accepted, handed_out}

@@ -9,7 +9,8 @@ use Rattle.integers.proofs.Chains.{chain_map}
 use Rattle.words.specs.Moves.{Move, cut, sign_change}
 use Rattle.words.specs.RoundBit.{round_bit_check}
 use Rattle.words.specs.HalfUnit.{half_unit_check}
-use Rattle.words.specs.declared.{Outcome.{Outcome, TheVariants.Done}, RoundBitWord.RoundBitWord, HalfUnitWord.HalfUnitWord}
+use Rattle.words.specs.Outcomes.{Outcome, Done}
+use Rattle.words.specs.Kinds.{RoundBitWord, HalfUnitWord}
 use Rattle.words.proofs.MoveLinks.{Made, moves_of, reached, MoveLinks}
 use Rattle.round_bit.specs.Moves.{Claimed as RoundBitClaimed}
 use Rattle.round_bit.proofs.Links.{Meets as RoundBitMeets, linked_claimed as round-bit-linked}

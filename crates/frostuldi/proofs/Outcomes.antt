@@ -5,7 +5,8 @@ use Prim.Native.Nat.{ℕ, zero, suc, ◌-◌}
 use native.Mathlib.Omega.{arith}
 use mathlib.Core.Path.{◌≡◌, refl, sym, ap, ◌∙◌}
 use Rattle.words.specs.Refusals.{number_of, cause_number, row}
-use Rattle.words.specs.declared.{Cause.TheVariants.Width, Outcome.{Outcome, TheVariants.{Done, Refused}}}
+use Rattle.words.specs.declared.Cause.TheVariants.{Width}
+use Rattle.words.specs.Outcomes.{Outcome, Done, Refused}
 use Rattle.words.proofs.Laws.{cause_of_number, cause_some, found, refused_not_done}
 
 abbrev pub outcome_in : ℕ → Outcome

@@ -225,7 +225,7 @@ impl From<FrostRunningSum> for RunningSum {
 fn eight_in(w: [FrostRoundBit; 8]) -> [RoundBitWord; 8]
     ensures { result ≡ map round_bit_in w }
 {
-    w.map(RoundBitWord::from)
+    w.map(|x| RoundBitWord::from(x))
 }
 
 // The taps of a channel, one of four. Each is read at its own place: at a place that is found the whole bank would be
