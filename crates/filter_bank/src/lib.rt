@@ -45,7 +45,7 @@ struct Row {
 fn any_differ(f: Format, w: [RoundBitWord; 8]) -> bool
     ensures { result ≡ any_differ f w }
 {
-    w.iter().any(|x| x.format.differs(f))
+    w.iter().any(|x| x.format != f)
 }
 
 // This width, with the unit of a word.

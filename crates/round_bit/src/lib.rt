@@ -155,7 +155,7 @@ fn even_round_bit(a: i64, round: u8, q: i64, k: u64) -> u8
     let even = 1 - odd;
     let least = middle(q, k) + even;
     let up = least <= value;
-    if up { 1 } else { 0 }
+    u8::from(up)
 }
 
 fn even_cut_round_bit(w: RoundBitWord, q: i64, d: u64) -> u8

@@ -6,7 +6,6 @@ use Rattle.words.proofs.number_of.Reads as number-of
 use Rattle.words.proofs.refuse_for.Reads as refuse-for
 use Rattle.words.proofs.Format.bad_unit.Reads as bad-unit
 use Rattle.words.proofs.Format.outside.Reads as outside
-use Rattle.words.proofs.Format.differs.Reads as differs
 use Rattle.words.proofs.Format.check.Reads as format-check
 use Rattle.words.proofs.Format.formed.Reads as formed
 use Rattle.words.proofs.Format.units_multiplied.Reads as units-multiplied
@@ -30,9 +29,6 @@ bad_unit_one a x y e f p q = p ∙ sym q
 
 outside_one : OneResult (outside.Post tt)
 outside_one a x y e f p q = p ∙ sym q
-
-differs_one : OneResult (differs.Post tt)
-differs_one a x y e f p q = p ∙ sym q
 
 format_check_one : OneResult (format-check.Post tt)
 format_check_one a x y e f p q = p ∙ sym q

@@ -287,13 +287,6 @@ impl Format {
         !integers::fits_width(x, self.width)
     }
 
-    // Do two formats differ in width or unit?
-    pub fn differs(self, other: Format) -> bool
-        ensures { result ≡ differ self other }
-    {
-        self != other
-    }
-
     // The first of the causes 1 and 2.
     #[tactic(auto, unfolding(crate::specs::Refusals::format_check))]
     pub fn check(self) -> Outcome
@@ -410,6 +403,6 @@ impl<N: Digits> Word<N> {
     {
         self.check()?;
         other.check()?;
-        refuse_for(Cause::Mismatch, self.format.differs(other.format))
+        refuse_for(Cause::Mismatch, self.format != other.format)
     }
 }

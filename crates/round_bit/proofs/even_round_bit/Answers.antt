@@ -2,14 +2,14 @@ use Prim.Native.Nat.{ℕ, suc, ◌+◌, ◌-◌, ◌^◌, ◌<◌, ◌≤◌}
 use native.Mathlib.Omega.{arith}
 use native.Mathlib.Nat.{pow-succ'}
 use native.Mathlib.Numerals.{add-one}
-use mathlib.Core.Path.{◌≡◌, sym, ap, ◌∙◌}
+use mathlib.Core.Path.{◌≡◌, refl, sym, ap, ◌∙◌}
 use mathlib.Core.Bool.{Bool, true, false, cond}
 use lib.Bits.{bit_and}
 use lib.Pow.{pow_mono}
 use lib.IntN.{ℤ, pos, nat_abs, ◌+ℤ◌, ◌-ℤ◌, ◌*ℤ◌}
 use lib.Signed.{mag, le_z}
 use mir.Syntax.{w64}
-use mir.Val.{SFits, to_z, of_z}
+use mir.Val.{SFits, to_z, of_z, bool_byte}
 use mir.Facts.{to_z-of_z, to_z_pos}
 use Rattle.integers.specs.Numbers.{floor_by, lowest, digit}
 use Rattle.integers.proofs.Kit.{ints, size_range, abs_range, by_abs, plus_law, minus_law}
@@ -21,6 +21,7 @@ use Rattle.integers.proofs.Machine.{lowest_machine}
 use Rattle.round_bit.specs.Cuts.{even_round_bit}
 use Rattle.round_bit.proofs.Laws.EvenCuts.{even_round_bit_lem}
 use Rattle.round_bit.proofs.even_round_bit.Goals as goal
+use Rattle.round_bit.proofs.even_round_bit.Goals.{Start}
 
 from-floor : {q : ℤ} (a : ℤ) (k : ℕ) → q ≡ floor_by a (suc k) → (q *ℤ pos (2 ^ (k + 1))) +ℤ pos (2 ^ k) ≡ middle a k
 from-floor a k e = rw (e, add-one)
@@ -40,7 +41,7 @@ bits_small x y h l = by_abs 1 (pos x -ℤ pos y) (omega (arith, minus_law (pos x
 small-fits : (x : ℤ) → nat_abs x ≤ 1 → SFits w64 x
 small-fits x h = omega (ints, abs_range 1 x h)
 
-module _ (s : goal.Start) where
+module _ (s : Start) where
   abbrev a : ℤ
   a = s.args.a
 
@@ -124,11 +125,12 @@ tested c =
       to_z-of_z (value_fits s),
     ) (goes_up_value (r s) (a s) (k s))
 
-by-test : (s : goal.Start) (t u : Bool) → t ≡ goes_up (r s) (a s) (k s) → t ≡ u → cond u 1 0 ≡ even_round_bit (r s) (a s) (k s)
-by-test s t u e f = sym (even_round_bit_lem (r s) (a s) (k s) s.requires.2 ∙ ap (λ (v : Bool). cond v 1 0) (sym e ∙ f))
+by-test : (s : Start) (t : Bool) → t ≡ goes_up (r s) (a s) (k s) → bool_byte t ≡ even_round_bit (r s) (a s) (k s)
+by-test s t e = rw e (as_bit (goes_up (r s) (a s) (k s)) ∙ sym (even_round_bit_lem (r s) (a s) (k s) s.requires.2))
+  where
+    as_bit : (v : Bool) → bool_byte v ≡ cond v 1 0
+    as_bit true = refl
+    as_bit false = refl
 
-pub returns-then-up : goal.returns-then-up
-returns-then-up c = by-test c.before.before _ true (tested c.before) c.if-up.true
-
-pub returns-else-up : goal.returns-else-up
-returns-else-up c = by-test c.before.before _ false (tested c.before) c.if-up.false
+pub returns : goal.returns
+returns c = c.from.ensures ∙ by-test c.before.before _ (tested c.before)
