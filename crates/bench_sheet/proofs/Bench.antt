@@ -59,7 +59,11 @@ use Rattle.bench_sheet.specs.Met.{Answers, Runs, Met, EveryCut}
 -- the later examples
 bench_holds : (length bench ≡ 14) × (every (every right) bench ≡ true)
     × (every (every right) requested ≡ true)
-unfolding fits_width floor_by lowest cleared digit digits_below any_below low_digits value format_check word_check narrower_check answer_check round_bit_fitted half_unit_fitted lent_after write_answer sign_change_word cut_by rest_word even_round_bit widen_word sum_word magnitude_product multiplied product_word from_plain_up_word even_floor from_plain_even_word sum_up_word sum_even_word half_multiplied half_product_word signed_digit byte_of byte_at text_of write_check write_of buffer_of depth_check open_answer open_of stepped put_check step_of first_bad digit_of text_value sign_before strange_at repeats_at strange_place repeat_place fault_check read_check place_of read_round read_word read_of
+unfolding fits_width floor_by lowest cleared digit digits_below any_below low_digits value format_check word_check narrower_check answer_check round_bit_fitted
+    half_unit_fitted lent_after write_answer sign_change_word cut_by rest_word even_round_bit widen_word sum_word magnitude_product multiplied product_word
+    from_plain_up_word even_floor from_plain_even_word sum_up_word sum_even_word half_multiplied half_product_word signed_digit byte_of byte_at text_of
+    write_check write_of buffer_of depth_check open_answer open_of stepped put_check step_of first_bad digit_of text_value sign_before strange_at repeats_at
+    strange_place repeat_place fault_check read_check place_of read_round read_word read_of
 bench_holds = (refl, refl, refl)
 
 -- ---- from the definitions to the contracts: a contract says that the answer is the definition's

@@ -88,7 +88,8 @@ rows =
     ∷ []
 
 all_right : all (length rows) (λ i. same (get_or rows i (is plain half 8 unit (pos 0)))) ≡ true
-unfolding first_bad in_units nearest_whole floor_of nearest_half_odd whole_count half_odd_count import_check cleared lowest fits_width plain_fitted round_bit_fitted half_unit_fitted format_check of_bits of_fields odd count_trailing_zeros
+unfolding first_bad in_units nearest_whole floor_of nearest_half_odd whole_count half_odd_count import_check cleared lowest fits_width plain_fitted
+    round_bit_fitted half_unit_fitted format_check of_bits of_fields odd count_trailing_zeros
 all_right = refl
 
 -- ---- both ends of every width: the last sample that is done, and the next, which is refused
@@ -133,5 +134,6 @@ abbrev ends : ℕ → Bool
 ends n = whole_ends plain n && whole_ends round_bit n && half_odd_ends n
 
 all_ends : all 62 (λ i. ends (2 + i)) ≡ true
-unfolding first_bad in_units nearest_whole floor_of nearest_half_odd whole_count half_odd_count import_check cleared lowest fits_width plain_fitted round_bit_fitted half_unit_fitted format_check of_bits of_fields odd count_trailing_zeros
+unfolding first_bad in_units nearest_whole floor_of nearest_half_odd whole_count half_odd_count import_check cleared lowest fits_width plain_fitted
+    round_bit_fitted half_unit_fitted format_check of_bits of_fields odd count_trailing_zeros
 all_ends = refl

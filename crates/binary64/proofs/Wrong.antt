@@ -94,5 +94,6 @@ abbrev wrong : List Row
 wrong = stand_ins ++ mistakes ++ orders
 
 all_wrong : all (length wrong) (λ k. not (same (get_or wrong k (gives plain three 8 unit (refused 15))))) ≡ true
-unfolding first_bad in_units nearest_whole floor_of nearest_half_odd whole_count half_odd_count import_check cleared lowest fits_width plain_fitted round_bit_fitted half_unit_fitted format_check of_bits of_fields odd count_trailing_zeros
+unfolding first_bad in_units nearest_whole floor_of nearest_half_odd whole_count half_odd_count import_check cleared lowest fits_width plain_fitted
+    round_bit_fitted half_unit_fitted format_check of_bits of_fields odd count_trailing_zeros
 all_wrong = refl

@@ -35,7 +35,8 @@ readings : (read_of (plus ∷ none ∷ plus ∷ []) (pos 0) ≡ refuses DigitTex
     × (read_of (plus ∷ minus ∷ []) (pos 0) ≡ reads (pos 1) 0)
     × (read_of (none ∷ plus ∷ []) (pos 0) ≡ reads (pos 0) 1)
     × (read_of (none ∷ none ∷ []) (pos 0) ≡ reads (pos 0) 0)
-unfolding first_bad format_check digit_of text_value sign_before strange_at repeats_at strange_place repeat_place fault_check read_check place_of read_round read_word read_of
+unfolding first_bad format_check digit_of text_value sign_before strange_at repeats_at strange_place repeat_place fault_check read_check place_of read_round
+    read_word read_of
 readings = (refl, refl, refl, refl)
 
 -- a blank and a question mark
@@ -50,5 +51,6 @@ places : (read_of (plus ∷ blank ∷ plus ∷ []) (pos 0) ≡ refuses Byte 1)
     × (read_of (plus ∷ plus ∷ minus ∷ []) (pos 0) ≡ refuses DigitText 1)
     × (read_of (plus ∷ none ∷ minus ∷ none ∷ minus ∷ plus ∷ asked ∷ []) (pos 0) ≡ refuses Byte 6)
     × (read_of (replicate 64 120) (pos 0) ≡ refuses Width 0)
-unfolding first_bad format_check digit_of text_value sign_before strange_at repeats_at strange_place repeat_place fault_check read_check place_of read_round read_word read_of
+unfolding first_bad format_check digit_of text_value sign_before strange_at repeats_at strange_place repeat_place fault_check read_check place_of read_round
+    read_word read_of
 places = (refl, refl, refl, refl)

@@ -95,5 +95,6 @@ abbrev wrong : List Row
 wrong = stand_ins ++ mistakes ++ misplaced
 
 all_wrong : all (length wrong) (λ k. differs (get_or wrong k (read [] (pos 0) (refused 1) 0))) ≡ true
-unfolding first_bad fits_width floor_by lowest digit format_check word_check signed_digit byte_of digit_of byte_at text_value sign_before write_answer lent_after text write_check write_of buffer_of strange_at repeats_at strange_place repeat_place fault_check read_check place_of read_round read_word read_of
+unfolding first_bad fits_width floor_by lowest digit format_check word_check signed_digit byte_of digit_of byte_at text_value sign_before write_answer
+    lent_after text write_check write_of buffer_of strange_at repeats_at strange_place repeat_place fault_check read_check place_of read_round read_word read_of
 all_wrong = refl

@@ -30,7 +30,8 @@ sample a r = word 16 (pos 0) a r
 -- (-2048,1) is worth -2047, and times -32768 it is 2047 * 2^15; eight of them are 2047 * 2^18, which the cut divides by 2^11: (262016,0)
 exact : output_of (alone 0 (replicate 8 (tap (negsuc 2047) 1))) (replicate 8 (sample (negsuc 32767) 0)) 0
     ≡ output_answer Done (word 20 (pos 11) (pos 262016) 0)
-unfolding fits_width floor_by lowest digit format_check word_check cut_by sum_word magnitude_product multiplied product_word added_to output_word words_check any_differ
+unfolding fits_width floor_by lowest digit format_check word_check cut_by sum_word magnitude_product multiplied product_word added_to output_word words_check
+    any_differ
 exact = refl
 
 -- the ends: eight times 2^26 is 2^29, held as (2^29 - 1, 1), and eight times -2^26 is (-2^29, 0)
@@ -38,7 +39,8 @@ ends : (output_of (alone 3 (replicate 8 (tap (negsuc 2047) 0))) (replicate 8 (sa
     ≡ output_answer Done (word 20 (pos 11) (pos 262143) 1))
     × (output_of (alone 3 (replicate 8 (tap (pos 2047) 1))) (replicate 8 (sample (negsuc 32767) 0)) 3
     ≡ output_answer Done (word 20 (pos 11) (negsuc 262143) 0))
-unfolding fits_width floor_by lowest digit format_check word_check cut_by sum_word magnitude_product multiplied product_word added_to output_word words_check any_differ
+unfolding fits_width floor_by lowest digit format_check word_check cut_by sum_word magnitude_product multiplied product_word added_to output_word words_check
+    any_differ
 ends = (refl, refl)
 
 -- taps worth 6, -3, 0, 1, -2048, 2048, 101 and -6, samples worth -9, 8, 10, 1, -32768, -32768, 12 and -20: the products are worth -54, -24,
@@ -54,5 +56,6 @@ mixed_samples =
 
 mixed : (total (products mixed_taps mixed_samples) ≡ word 31 (pos 0) (pos 1254) 1)
     × (output_of (alone 1 mixed_taps) mixed_samples 1 ≡ output_answer Done (word 20 (pos 11) (pos 0) 1))
-unfolding fits_width floor_by lowest digit format_check word_check cut_by sum_word magnitude_product multiplied product_word added_to output_word words_check any_differ
+unfolding fits_width floor_by lowest digit format_check word_check cut_by sum_word magnitude_product multiplied product_word added_to output_word words_check
+    any_differ
 mixed = (refl, refl)

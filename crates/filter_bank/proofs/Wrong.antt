@@ -101,5 +101,6 @@ abbrev wrong : List Row
 wrong = stand_ins ++ mistakes ++ misplaced
 
 all_wrong : all (length wrong) (λ k. differs (get_or wrong k (wrongly 0 [] [] (refused 0)))) ≡ true
-unfolding first_bad fits_width floor_by lowest digit format_check word_check cut_by sum_word magnitude_product multiplied product_word added_to output_word words_check any_differ
+unfolding first_bad fits_width floor_by lowest digit format_check word_check cut_by sum_word magnitude_product multiplied product_word added_to output_word
+    words_check any_differ
 all_wrong = refl

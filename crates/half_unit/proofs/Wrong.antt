@@ -129,5 +129,7 @@ abbrev wrong : List Row
 wrong = stand_ins ++ mistakes
 
 all_wrong : all (length wrong) (λ k. differs (get_or wrong k (sign_change (at 5 (pos 3)) (refused 3)))) ≡ true
-unfolding first_bad fits_width floor_by lowest cleared digit any_below format_check word_check narrower_check answer_check half_unit_fitted sign_change_word cut_word from_plain_up_word even_floor from_plain_even_word to_plain_word to_round_bit_word from_round_bit_word sum_up_word sum_even_word multiplied product_word
+unfolding first_bad fits_width floor_by lowest cleared digit any_below format_check word_check narrower_check answer_check half_unit_fitted sign_change_word
+    cut_word from_plain_up_word even_floor from_plain_even_word to_plain_word to_round_bit_word from_round_bit_word sum_up_word sum_even_word multiplied
+    product_word
 all_wrong = refl

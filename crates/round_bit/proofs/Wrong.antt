@@ -138,5 +138,6 @@ abbrev wrong : List Row
 wrong = stand_ins ++ mistakes
 
 all_wrong : all (length wrong) (λ k. differs (get_or wrong k (to_plain (at 5 (pos 3) 1) (refused 3)))) ≡ true
-unfolding first_bad fits_width floor_by lowest digit digits_below low_digits format_check word_check narrower_check answer_check plain_fitted round_bit_fitted sign_change_word cut_by rest_word even_round_bit widen_word sum_word magnitude_product multiplied product_word to_plain_word from_plain_word
+unfolding first_bad fits_width floor_by lowest digit digits_below low_digits format_check word_check narrower_check answer_check plain_fitted round_bit_fitted
+    sign_change_word cut_by rest_word even_round_bit widen_word sum_word magnitude_product multiplied product_word to_plain_word from_plain_word
 all_wrong = refl

@@ -131,5 +131,6 @@ abbrev differs : Row → Bool
 differs r = not (same_answer (answer r) (claimed r))
 
 all_wrong : all (length wrong) (λ k. differs (get_or wrong k (opening 8 (pos 0) 2 (gives (no_word 0) (pos 0) 0)))) ≡ true
-unfolding first_bad fits_width floor_by lowest digit digits_below low_digits format_check word_check narrower_check round_bit_fitted cut_by rest_word sum_word depth_check open_answer open_of stepped put_check step_of
+unfolding first_bad fits_width floor_by lowest digit digits_below low_digits format_check word_check narrower_check round_bit_fitted cut_by rest_word sum_word
+    depth_check open_answer open_of stepped put_check step_of
 all_wrong = refl
