@@ -12,8 +12,7 @@ use Rattle.words.specs.RoundBit.{round_bit_value, round_bit_check}
 use Rattle.words.specs.declared.Cause.{Cause, TheVariants.{Mismatch}}
 use Rattle.words.specs.declared.Format.{Format}
 use Rattle.words.specs.Outcomes.{Outcome, Done, Refused}
-use Rattle.words.specs.Kinds.{RoundBitWord}
-use Rattle.words.specs.Kinds.{RoundBitAnswer}
+use Rattle.words.specs.Kinds.{RoundBitWord, RoundBitAnswer}
 use Rattle.words.proofs.Laws.{refused_not_done, both_passed, three_passed, passed, round_bit_right, round_bit_passes}
 use Rattle.words.proofs.Operands.{same_format}
 use Rattle.words.proofs.Rights.{nothing_right}
