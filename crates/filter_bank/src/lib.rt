@@ -59,8 +59,8 @@ fn output_refused(c: Cause) -> OutputAnswer
 }
 
 // Has any of eight words another format?
-fn any_differ(f: Format, w: [RoundBitWord; 8]) -> bool
-    ensures { result ≡ any_differ f w }
+fn any_differ(f: Format, w: &[RoundBitWord; TAPS]) -> bool
+    ensures { result ≡ any_differ f w.now }
 {
     w.iter().any(|x| words::differ(x.format, f))
 }
@@ -76,55 +76,23 @@ fn in_width(width: u32, w: RoundBitWord) -> Format
 }
 
 // Has any of eight words another width, or not the unit of the first?
-fn unlike(width: u32, w: [RoundBitWord; 8]) -> bool
-    ensures { result ≡ unlike width w }
+fn unlike(width: u32, w: &[RoundBitWord; TAPS]) -> bool
+    ensures { result ≡ unlike width w.now }
 {
     let f = in_width(width, w[0]);
     any_differ(f, w)
 }
 
 // 1, 2, 3 of eight words, word by word.
-fn words_check(w: [RoundBitWord; 8]) -> Outcome
-    ensures { result ≡ words_check w }
+fn words_check(w: &[RoundBitWord; TAPS]) -> Outcome
+    ensures { result ≡ words_check w.now }
 {
     for x in w {
-        if let Outcome::Refused(c) = words::round_bit_check(x) {
+        if let Outcome::Refused(c) = words::round_bit_check(*x) {
             return Outcome::Refused(c);
         }
     }
     Outcome::Done
-}
-
-// 1, 2, 3 of the taps, tap by tap, then of the samples, then 4.
-fn row_check(taps: [RoundBitWord; 8], window: [RoundBitWord; 8]) -> Outcome
-    ensures { result ≡ row_check taps window }
-{
-    if let Outcome::Refused(c) = words_check(taps) {
-        return Outcome::Refused(c);
-    }
-    if let Outcome::Refused(c) = words_check(window) {
-        return Outcome::Refused(c);
-    }
-    words::refuse_for(
-        Cause::Mismatch,
-        unlike(TAP_WIDTH, taps) | unlike(SAMPLE_WIDTH, window),
-    )
-}
-
-// The format of the sum, which the check finds; the 7 of the output comes with the cut.
-fn sum_format(taps: [RoundBitWord; 8], window: [RoundBitWord; 8], channel: u32) -> FormatAnswer
-    ensures { result ≡ format_answer (refuse 17 (ltb most_channel channel) or_else row_check taps window or_else refuse 7 (bad_unit (products_unit taps window))) (format sum_width (products_unit taps window)) }
-{
-    if MOST_CHANNEL < channel {
-        words::format_refused(Cause::Channel)
-    } else if let Outcome::Refused(c) = row_check(taps, window) {
-        words::format_refused(c)
-    } else {
-        words::formed(
-            SUM_WIDTH,
-            words::units_multiplied(taps[0].format, window[0].format),
-        )
-    }
 }
 
 // A round bit, turned over where its word's sign is to change.
@@ -170,25 +138,66 @@ fn summed(m: RoundBit, n: RoundBit) -> RoundBit
     RoundBit(m.0 + n.0 + i64::from(m.1 & n.1), m.1 | n.1)
 }
 
-// The products, added from tap 0 up.
-fn total(taps: [RoundBitWord; 8], window: [RoundBitWord; 8]) -> RoundBit
-    requires { row_check taps window ≡ Outcome.Done }
-    ensures { result ≡ (total (products taps window)).number }
-{
-    let mut sum = tap_product(taps[0].number, window[0].number);
-    for i in 1..TAPS {
-        sum = summed(sum, tap_product(taps[i].number, window[i].number));
-    }
-    sum
+// The taps of a channel, and the samples that go with them.
+#[derive(Clone, Copy)]
+struct Row {
+    taps: [RoundBitWord; TAPS],
+    window: [RoundBitWord; TAPS],
 }
 
-fn sum_word(taps: [RoundBitWord; 8], window: [RoundBitWord; 8], f: Format) -> RoundBitWord
-    requires { (row_check taps window ≡ Outcome.Done) × (f ≡ format sum_width (products_unit taps window)) }
-    ensures { result ≡ total (products taps window) }
-{
-    RoundBitWord {
-        number: total(taps, window),
-        format: f,
+impl Row {
+    // 1, 2, 3 of the taps, tap by tap, then of the samples, then 4.
+    fn check(self) -> Outcome
+        ensures { result ≡ row_check self.taps self.window }
+    {
+        if let Outcome::Refused(c) = words_check(&self.taps) {
+            return Outcome::Refused(c);
+        }
+        if let Outcome::Refused(c) = words_check(&self.window) {
+            return Outcome::Refused(c);
+        }
+        words::refuse_for(
+            Cause::Mismatch,
+            unlike(TAP_WIDTH, &self.taps) | unlike(SAMPLE_WIDTH, &self.window),
+        )
+    }
+
+    // The format of the sum, which the check finds; the 7 of the output comes with the cut.
+    fn sum_format(self, channel: u32) -> FormatAnswer
+        ensures { let taps = self.taps in let window = self.window in result ≡ format_answer (refuse 17 (ltb most_channel channel) or_else row_check taps window or_else refuse 7 (bad_unit (products_unit taps window))) (format sum_width (products_unit taps window)) }
+    {
+        if MOST_CHANNEL < channel {
+            words::format_refused(Cause::Channel)
+        } else if let Outcome::Refused(c) = self.check() {
+            words::format_refused(c)
+        } else {
+            words::formed(
+                SUM_WIDTH,
+                words::units_multiplied(self.taps[0].format, self.window[0].format),
+            )
+        }
+    }
+
+    // The products, added from tap 0 up.
+    fn total(self) -> RoundBit
+        requires { row_check self.taps self.window ≡ Outcome.Done }
+        ensures { result ≡ (total (products self.taps self.window)).number }
+    {
+        let mut sum = tap_product(self.taps[0].number, self.window[0].number);
+        for i in 1..TAPS {
+            sum = summed(sum, tap_product(self.taps[i].number, self.window[i].number));
+        }
+        sum
+    }
+
+    fn sum_word(self, f: Format) -> RoundBitWord
+        requires { (row_check self.taps self.window ≡ Outcome.Done) × (f ≡ format sum_width (products_unit self.taps self.window)) }
+        ensures { result ≡ total (products self.taps self.window) }
+    {
+        RoundBitWord {
+            number: self.total(),
+            format: f,
+        }
     }
 }
 
@@ -203,23 +212,28 @@ fn output_cut(w: RoundBitWord) -> OutputAnswer
 
 // The output of a channel that has these taps.
 pub fn channel_output(
-    taps: [RoundBitWord; 8],
-    window: [RoundBitWord; 8],
+    taps: [RoundBitWord; TAPS],
+    window: [RoundBitWord; TAPS],
     channel: u32,
 ) -> OutputAnswer
     ensures { result ≡ channel_output_of taps window channel }
 {
-    let a = sum_format(taps, window, channel);
+    let row = Row { taps, window };
+    let a = row.sum_format(channel);
     let o = a.outcome;
     match o {
         Outcome::Refused(c) => output_refused(c),
-        Outcome::Done => output_cut(sum_word(taps, window, a.format)),
+        Outcome::Done => output_cut(row.sum_word(a.format)),
     }
 }
 
 // One channel's output. A channel that the bank has not is refused before its taps are looked at, so
 // any row may stand for them.
-pub fn output(bank: [[RoundBitWord; 8]; 4], window: [RoundBitWord; 8], channel: u32) -> OutputAnswer
+pub fn output(
+    bank: [[RoundBitWord; TAPS]; 4],
+    window: [RoundBitWord; TAPS],
+    channel: u32,
+) -> OutputAnswer
     ensures { result ≡ output_of bank window channel }
 {
     let c = (channel % CHANNELS) as usize;

@@ -5,11 +5,11 @@ use Rattle.filter_bank.proofs.words_check.Goals as goal
 
 pub returns-in-Refused : goal.returns-in-Refused
 returns-in-Refused c =
-    sym (c.loop-x.invariant ∙ check_refused c.args.w c.loop-x.x-index _ c.round_bit_check.ensures (omega arith) _ c.in-Refused.is)
+    sym (c.loop-x.invariant ∙ check_refused c.args.w.now c.loop-x.x-index _ c.round_bit_check.ensures (omega arith) _ c.in-Refused.is)
 
 pub loop-x-preserved : goal.loop-x-preserved
 loop-x-preserved c =
-    c.loop-x.invariant ∙ check_passed c.args.w c.loop-x.x-index _ c.round_bit_check.ensures (omega arith) c.in_default.is
+    c.loop-x.invariant ∙ check_passed c.args.w.now c.loop-x.x-index _ c.round_bit_check.ensures (omega arith) c.in_default.is
 
 pub returns : goal.returns
-returns c = sym (c.loop-x.invariant ∙ check_end c.args.w c.loop-x.x-index 8 (omega arith) (omega arith))
+returns c = sym (c.loop-x.invariant ∙ check_end c.args.w.now c.loop-x.x-index 8 (omega arith) (omega arith))
