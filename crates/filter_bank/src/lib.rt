@@ -83,7 +83,8 @@ fn unlike(width: u32, w: &[RoundBitWord; TAPS]) -> bool
     any_differ(f, w)
 }
 
-// 1, 2, 3 of eight words, word by word.
+// 1, 2, 3 of eight words, word by word. In its two calls each the loop is quicker than in one place for both.
+#[inline(always)]
 fn words_check(w: &[RoundBitWord; TAPS]) -> Outcome
     ensures { result ≡ words_check w.now }
 {
@@ -147,8 +148,8 @@ struct Row {
 
 impl Row {
     // 1, 2, 3 of the taps, tap by tap, then of the samples, then 4.
-    fn check(self) -> Outcome
-        ensures { result ≡ row_check self.taps self.window }
+    fn check(&self) -> Outcome
+        ensures { result ≡ row_check self.now.taps self.now.window }
     {
         if let Outcome::Refused(c) = words_check(&self.taps) {
             return Outcome::Refused(c);
@@ -163,8 +164,8 @@ impl Row {
     }
 
     // The format of the sum, which the check finds; the 7 of the output comes with the cut.
-    fn sum_format(self, channel: u32) -> FormatAnswer
-        ensures { let taps = self.taps in let window = self.window in result ≡ format_answer (refuse 17 (ltb most_channel channel) or_else row_check taps window or_else refuse 7 (bad_unit (products_unit taps window))) (format sum_width (products_unit taps window)) }
+    fn sum_format(&self, channel: u32) -> FormatAnswer
+        ensures { let taps = self.now.taps in let window = self.now.window in result ≡ format_answer (refuse 17 (ltb most_channel channel) or_else row_check taps window or_else refuse 7 (bad_unit (products_unit taps window))) (format sum_width (products_unit taps window)) }
     {
         if MOST_CHANNEL < channel {
             words::format_refused(Cause::Channel)
@@ -179,9 +180,9 @@ impl Row {
     }
 
     // The products, added from tap 0 up.
-    fn total(self) -> RoundBit
-        requires { row_check self.taps self.window ≡ Outcome.Done }
-        ensures { result ≡ (total (products self.taps self.window)).number }
+    fn total(&self) -> RoundBit
+        requires { row_check self.now.taps self.now.window ≡ Outcome.Done }
+        ensures { result ≡ (total (products self.now.taps self.now.window)).number }
     {
         let mut sum = tap_product(self.taps[0].number, self.window[0].number);
         for i in 1..TAPS {
@@ -190,9 +191,9 @@ impl Row {
         sum
     }
 
-    fn sum_word(self, f: Format) -> RoundBitWord
-        requires { (row_check self.taps self.window ≡ Outcome.Done) × (f ≡ format sum_width (products_unit self.taps self.window)) }
-        ensures { result ≡ total (products self.taps self.window) }
+    fn sum_word(&self, f: Format) -> RoundBitWord
+        requires { (row_check self.now.taps self.now.window ≡ Outcome.Done) × (f ≡ format sum_width (products_unit self.now.taps self.now.window)) }
+        ensures { result ≡ total (products self.now.taps self.now.window) }
     {
         RoundBitWord {
             number: self.total(),

@@ -26,6 +26,6 @@ returns-in_default c =
       c.formed.ensures,
       to_z-of_z u,
       c.units_multiplied.ensures,
-      first_unit c.args.self.taps,
-      first_unit c.args.self.window,
+      first_unit c.args.self.now.taps,
+      first_unit c.args.self.now.window,
     )
