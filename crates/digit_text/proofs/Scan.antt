@@ -1,8 +1,8 @@
--- Facts about texts and their digits, for the functions and the laws: a digit's byte, what one byte more does to a text's value and to the
+-- Facts about texts and their digits, for the functions and the laws: a digit's size, what one byte more does to a text's value and to the
 -- sign before the next place, how large the value can be, and what a passed check of a writing tells. Assumes nothing.
--- Proved here: `byte_plus`, `byte_minus`, `byte_none`, `digit_range`, `get_d_any`, `value_append`, `value_next`, `value_range`,
+-- Proved here: `digit_range`, `get_d_any`, `value_append`, `value_next`, `value_range`,
 -- `value_small`, `sign_kept`, `sign_taken`, `lowest_plus`, `bit_le`, `round_le`, `write_right`, `write_room`.
-use Prim.Native.Nat.{ℕ, zero, suc, ◌+◌, ◌*◌, ◌-◌, ◌^◌, ◌≤◌, ◌<◌}
+use Prim.Native.Nat.{ℕ, zero, suc, ◌+◌, ◌*◌, ◌^◌, ◌≤◌, ◌<◌}
 use native.Mathlib.Nat.{not-suc-le-zero, le_of_suc-le-suc, lt_of_lt_of_le, mul-le-mul_right, pow-succ'}
 use native.Mathlib.Numerals.{add-one}
 use native.Mathlib.Omega.{arith}
@@ -14,12 +14,11 @@ use mathlib.Core.Bool.{Bool, true, false, not, cond}
 use mathlib.Core.List.{List, [], ◌∷◌, ◌++◌}
 use lib.Dec.{eqb, ltb}
 use lib.IntN.{ℤ, pos, negsuc, nat_abs, ◌+ℤ◌, ◌*ℤ◌, zero-*ℤ, +ℤ_idl, +ℤ_assoc}
-use lib.Signed.{lt_z}
 use lib.ListN.{length, get_or, take, length-append}
 use lib.Pow.{pow-add, pow_mono}
 use lib.Seq.{take-suc, take-length}
 use borrow.Author.Tests.{ltb-false, not-true, not-false}
-use Rattle.integers.proofs.Kit.{up, down, ints, plus_law, times_law, abs_law, one_zero, lt_true, lt_false}
+use Rattle.integers.proofs.Kit.{up, down, ints, plus_law, times_law, abs_law, one_zero}
 use Rattle.integers.proofs.Times.{plus_times, times_assoc}
 use Rattle.words.specs.Refusals.{refuse_for}
 use Rattle.words.specs.RoundBit.{round_bit_check}
@@ -27,22 +26,10 @@ use Rattle.words.specs.declared.Cause.TheVariants.{Buffer}
 use Rattle.words.specs.declared.Outcome.TheVariants.{Done}
 use Rattle.words.specs.declared.RoundBitWord.{RoundBitWord}
 use Rattle.words.proofs.Laws.{both_passed, passed}
-use Rattle.digit_text.specs.Digits.{plus, none, minus, byte_of, digit_of, text_value, sign_before, write_check}
+use Rattle.digit_text.specs.Digits.{plus, none, minus, digit_of, text_value, sign_before, write_check}
 use Rattle.digit_text.specs.Reading.{read_round}
 
--- ---- a digit and its byte
-pub byte_plus : (d : ℤ) → lt_z (pos 0) d ≡ true → byte_of d ≡ plus
-unfolding byte_of
-byte_plus d p = let e : d ≡ pos (suc (up d - 1)) = omega (ints, lt_true (pos 0) d p, one_zero d) in rw e
-
-pub byte_minus : (d : ℤ) → lt_z d (pos 0) ≡ true → byte_of d ≡ minus
-unfolding byte_of
-byte_minus d m = let e : d ≡ negsuc (down d - 1) = omega (ints, lt_true d (pos 0) m, one_zero d) in rw e
-
-pub byte_none : (d : ℤ) → lt_z (pos 0) d ≡ false → lt_z d (pos 0) ≡ false → byte_of d ≡ none
-unfolding byte_of
-byte_none d p m = let e : d ≡ pos 0 = omega (ints, lt_false (pos 0) d p, lt_false d (pos 0) m) in rw e
-
+-- ---- a digit that a byte stands for
 pub digit_range : (b : ℕ) → nat_abs (digit_of b) ≤ 1
 unfolding digit_of
 digit_range b = go (eqb b plus) (eqb b minus)
