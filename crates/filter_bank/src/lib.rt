@@ -83,7 +83,7 @@ fn unlike(width: u32, w: &[RoundBitWord; TAPS]) -> bool
     any_differ(f, w)
 }
 
-// 1, 2, 3 of eight words, word by word. In its two calls each the loop is quicker than in one place for both.
+// 1, 2, 3 of eight words, word by word. It is inlined, since calls of one loop for both rows take longer.
 #[inline(always)]
 fn words_check(w: &[RoundBitWord; TAPS]) -> Outcome
     ensures { result ≡ words_check w.now }
