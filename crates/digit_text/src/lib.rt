@@ -80,8 +80,8 @@ fn put_text(w: RoundBitWord, n: usize, text: &mut [u8])
 {
     let mut top_row = doubled(w);
     let mut bottom_row = w.number.0;
-    for column in 0..n {
-        text[n - 1 - column] = byte_of(top_less_bottom(top_row, bottom_row));
+    for k in (0..n).rev() {
+        text[k] = byte_of(top_less_bottom(top_row, bottom_row));
         top_row = integers::floor_by(top_row, 1);
         bottom_row = integers::floor_by(bottom_row, 1);
     }

@@ -1,4 +1,4 @@
-use Prim.Native.Nat.{ℕ, ◌-◌}
+use Prim.Native.Nat.{ℕ, ◌-◌, ◌≤◌}
 use mathlib.Core.Path.{◌≡◌}
 use lib.IntN.{ℤ, pos, ◌-ℤ◌}
 use lib.ListN.{length}
@@ -11,10 +11,11 @@ use Rattle.digit_text.proofs.put_text.Given as goal
 abbrev pub bytes : ℤ → ℤ → ℕ → ℕ → ℕ
 bytes top bottom n k = byte_of (pos (digit top (n - 1 - k)) -ℤ pos (digit bottom (n - 1 - k)))
 
-abbrev pub invariant-loop-column : goal.invariant-loop-column
-invariant-loop-column l =
+abbrev pub invariant-loop-k : goal.invariant-loop-k
+invariant-loop-k l =
     let f = bytes l.initial.top_row l.initial.bottom_row l.n in
-    (length l.text ≡ length l.initial.text)
-    × (l.top_row ≡ floor_by l.initial.top_row l.column)
-    × (l.bottom_row ≡ floor_by l.initial.bottom_row l.column)
-    × (over (l.n - l.column) f l.text ≡ over l.n f l.initial.text)
+    (l.k ≤ l.n)
+    × (length l.text ≡ length l.initial.text)
+    × (l.top_row ≡ floor_by l.initial.top_row (l.n - l.k))
+    × (l.bottom_row ≡ floor_by l.initial.bottom_row (l.n - l.k))
+    × (over l.k f l.text ≡ over l.n f l.initial.text)
