@@ -42,8 +42,8 @@ struct Row {
 }
 
 // Has any of eight words another format?
-fn any_differ(f: Format, w: [RoundBitWord; 8]) -> bool
-    ensures { result ≡ any_differ f w }
+fn any_differ(f: Format, w: &[RoundBitWord; TAPS]) -> bool
+    ensures { result ≡ any_differ f w.now }
 {
     w.iter().any(|x| x.format != f)
 }
@@ -59,16 +59,17 @@ fn in_width(width: u32, w: RoundBitWord) -> Format
 }
 
 // Has any of eight words another width, or not the unit of the first?
-fn unlike(width: u32, w: [RoundBitWord; 8]) -> bool
-    ensures { result ≡ unlike width w }
+fn unlike(width: u32, w: &[RoundBitWord; TAPS]) -> bool
+    ensures { result ≡ unlike width w.now }
 {
     let f = in_width(width, w[0]);
     any_differ(f, w)
 }
 
-// 1, 2, 3 of eight words, word by word.
-fn words_check(w: [RoundBitWord; 8]) -> Outcome
-    ensures { result ≡ words_check w }
+// 1, 2, 3 of eight words, word by word. It is inlined, since calls of one loop for both rows take longer.
+#[inline(always)]
+fn words_check(w: &[RoundBitWord; TAPS]) -> Outcome
+    ensures { result ≡ words_check w.now }
 {
     for x in w {
         x.check()?;
@@ -121,18 +122,18 @@ fn summed(m: RoundBit, n: RoundBit) -> RoundBit
 
 impl Row {
     // 1, 2, 3 of the taps, tap by tap, then of the samples, then 4.
-    fn check(self) -> Outcome
-        ensures { result ≡ row_check self.taps self.window }
+    fn check(&self) -> Outcome
+        ensures { result ≡ row_check self.now.taps self.now.window }
     {
-        words_check(self.taps)?;
-        words_check(self.window)?;
-        let unlike = unlike(TAP_WIDTH, self.taps) | unlike(SAMPLE_WIDTH, self.window);
+        words_check(&self.taps)?;
+        words_check(&self.window)?;
+        let unlike = unlike(TAP_WIDTH, &self.taps) | unlike(SAMPLE_WIDTH, &self.window);
         refuse_for(Cause::Mismatch, unlike)
     }
 
     // The format of the sum; the 7 of the output comes with the cut.
-    fn sum_format(self) -> Result<Format, Cause>
-        ensures { result ≡ given (row_check self.taps self.window or_else refuse 7 (bad_unit (products_unit self.taps self.window))) (format sum_width (products_unit self.taps self.window)) }
+    fn sum_format(&self) -> Result<Format, Cause>
+        ensures { result ≡ given (row_check self.now.taps self.now.window or_else refuse 7 (bad_unit (products_unit self.now.taps self.now.window))) (format sum_width (products_unit self.now.taps self.now.window)) }
     {
         self.check()?;
         Format::formed(
@@ -142,9 +143,9 @@ impl Row {
     }
 
     // The products, added from tap 0 up.
-    fn total(self) -> RoundBit
-        requires { row_check self.taps self.window ≡ Done }
-        ensures { result ≡ (total (products self.taps self.window)).number }
+    fn total(&self) -> RoundBit
+        requires { row_check self.now.taps self.now.window ≡ Done }
+        ensures { result ≡ (total (products self.now.taps self.now.window)).number }
     {
         let mut sum = tap_product(self.taps[0].number, self.window[0].number);
         for i in 1..TAPS {
@@ -153,8 +154,8 @@ impl Row {
         sum
     }
 
-    fn sum_word(self) -> Result<RoundBitWord, Cause>
-        ensures { result ≡ given (row_check self.taps self.window or_else refuse 7 (bad_unit (products_unit self.taps self.window))) (total (products self.taps self.window)) }
+    fn sum_word(&self) -> Result<RoundBitWord, Cause>
+        ensures { result ≡ given (row_check self.now.taps self.now.window or_else refuse 7 (bad_unit (products_unit self.now.taps self.now.window))) (total (products self.now.taps self.now.window)) }
     {
         let format = self.sum_format()?;
         Ok(Word {
@@ -164,8 +165,8 @@ impl Row {
     }
 }
 
-fn sum_of_channel(row: Row, channel: u32) -> Result<RoundBitWord, Cause>
-    ensures { result ≡ given (refuse 17 (ltb most_channel channel) or_else row_check row.taps row.window or_else refuse 7 (bad_unit (products_unit row.taps row.window))) (total (products row.taps row.window)) }
+fn sum_of_channel(row: &Row, channel: u32) -> Result<RoundBitWord, Cause>
+    ensures { result ≡ given (refuse 17 (ltb most_channel channel) or_else row_check row.now.taps row.now.window or_else refuse 7 (bad_unit (products_unit row.now.taps row.now.window))) (total (products row.now.taps row.now.window)) }
 {
     refuse_for(Cause::Channel, MOST_CHANNEL < channel)?;
     row.sum_word()
@@ -179,7 +180,7 @@ pub fn channel_output(
 ) -> CutAnswer<RoundBit>
     ensures { result ≡ channel_output_of taps window channel }
 {
-    match sum_of_channel(Row { taps, window }, channel) {
+    match sum_of_channel(&Row { taps, window }, channel) {
         Ok(sum) => round_bit::cut(sum, CUT_DEPTH),
         Err(cause) => CutAnswer::from(Err(cause)),
     }

@@ -18,7 +18,7 @@ any_is f (w ∷ more) = ap (λ b. differ w.format f || b) (any_is f more)
 
 pub returns : goal.returns
 returns c =
-    let ws = c.args.w in
+    let ws = c.args.w.now in
     let f = c.args.f in
     any_from_yields_List (λ (w : RoundBitWord). differ w.format f) _ _ c.any.result c.any.ensures.ran (YieldsList-from_slice ws (cc))
     (λ x b q k. search (rules, tests))

@@ -14,6 +14,6 @@ returns c =
       c.formed.ensures,
       to_z-of_z u,
       c.units_multiplied.ensures,
-      first_unit c.args.self.taps,
-      first_unit c.args.self.window,
+      first_unit c.args.self.now.taps,
+      first_unit c.args.self.now.window,
     )

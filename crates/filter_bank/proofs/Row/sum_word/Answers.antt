@@ -15,5 +15,5 @@ total-requires c = (both_passed _ _ (ok_given _ _ _ c.in_ok-format.ensures).0).0
 pub returns : goal.returns
 returns c =
     let p = ok_given _ _ _ c.in_ok-format.ensures in
-    let f = p.1 ∙ sym (total_format c.args.self.taps c.args.self.window (omega arith) (omega arith)) in
+    let f = p.1 ∙ sym (total_format c.args.self.now.taps c.args.self.now.window (omega arith) (omega arith)) in
     given_is p.0 (λ i. record { number = c.total.ensures i; format = f i })
