@@ -19,7 +19,7 @@ ghost use Rattle.words.specs.Formats.{answer_check};
 ghost use Rattle.words.specs.RoundBit.{round_bit_check};
 ghost use Rattle.words.specs.Plain.{plain_check};
 ghost use Rattle.round_bit.specs.Cuts.{sign_changed, sign_change_word, sign_change_of, cut_check, cut_word, cut_of, rest_word, rest_of, cut_and_rest_of, even_round_bit, even_cut_word, even_cut_of, widen_check, widen_word, widen_of};
-ghost use Rattle.round_bit.specs.Arithmetic.{sum_check, sum_word, sum_of, difference_of, magnitude_product, sign_changed_if, multiplied, product_format, product_check, product_word, product_of, to_plain_word, to_plain_of, from_plain_word, from_plain_of};
+ghost use Rattle.round_bit.specs.Arithmetic.{sum_check, sum_word, sum_of, difference_of, magnitude_product, sign_changed_if, magnitude, multiplied, product_format, product_check, product_word, product_of, to_plain_word, to_plain_of, from_plain_word, from_plain_of};
 
 use words::{
     Cause, CutAnswer, Format, Plain, PlainAnswer, PlainWord, RoundBit, RoundBitAnswer,
@@ -33,20 +33,44 @@ pub struct CutAndRest {
     pub rest: RoundBitWord,
 }
 
-// Sign change: (-1-a, 1-r).
-fn sign_changed(n: RoundBit) -> RoundBit
-    requires { n.1 ≤ 1 }
-    ensures { result ≡ sign_changed n }
-{
-    RoundBit(!n.0, 1 - n.1)
+// A number whose round bit is 0 or 1, as that of every word that passed its check.
+#[derive(Clone, Copy)]
+struct RightNumber {
+    number: RoundBit,
+    ghost bit: { number.1 ≤ 1 },
+}
+
+impl RightNumber {
+    // Sign change: (-1-a, 1-r).
+    fn sign_changed(self) -> RightNumber
+        ensures { result.number ≡ sign_changed self.number }
+    {
+        let RoundBit(a, r) = self.number;
+        RightNumber {
+            number: RoundBit(!a, 1 - r),
+        }
+    }
+
+    fn sign_changed_if(self, test: bool) -> RightNumber
+        ensures { result.number ≡ sign_changed_if test self.number }
+    {
+        if test { self.sign_changed() } else { self }
+    }
+
+    fn magnitude(self) -> RightNumber
+        ensures { result.number ≡ magnitude self.number }
+    {
+        self.sign_changed_if(self.number.0 < 0)
+    }
 }
 
 fn sign_change_word(w: RoundBitWord) -> RoundBitWord
     requires { round_bit_check w ≡ Done }
     ensures { result ≡ sign_change_word w }
 {
+    let n = RightNumber { number: w.number };
     Word {
-        number: sign_changed(w.number),
+        number: n.sign_changed().number,
         ..w
     }
 }
@@ -145,17 +169,20 @@ fn middle(q: i64, k: u64) -> i64
     (q << (k + 1)) + (1 << k)
 }
 
-// The rule stands here alone: up from the floor q past the middle, and in the middle where q is odd.
-fn even_round_bit(a: i64, round: u8, q: i64, k: u64) -> u8
-    requires { (k ≤ 60) × (mag a < 2 ^ 62) × (round ≤ 1) × (q ≡ floor_by a (k + 1)) }
-    ensures { result ≡ even_round_bit round a k }
-{
-    let value = a + round as i64;
-    let odd = q & 1;
-    let even = 1 - odd;
-    let least = middle(q, k) + even;
-    let up = least <= value;
-    u8::from(up)
+impl RightNumber {
+    // The rule stands here alone: up from the floor q past the middle, and in the middle where q is odd.
+    fn even_round_bit(self, q: i64, k: u64) -> u8
+        requires { (k ≤ 60) × (mag self.number.0 < 2 ^ 62) × (q ≡ floor_by self.number.0 (k + 1)) }
+        ensures { result ≡ even_round_bit self.number.1 self.number.0 k }
+    {
+        let RoundBit(a, round) = self.number;
+        let value = a + round as i64;
+        let odd = q & 1;
+        let even = 1 - odd;
+        let least = middle(q, k) + even;
+        let up = least <= value;
+        u8::from(up)
+    }
 }
 
 fn even_cut_round_bit(w: RoundBitWord, q: i64, d: u64) -> u8
@@ -165,7 +192,7 @@ fn even_cut_round_bit(w: RoundBitWord, q: i64, d: u64) -> u8
     if d == 0 {
         w.number.1
     } else {
-        even_round_bit(w.number.0, w.number.1, q, d - 1)
+        RightNumber { number: w.number }.even_round_bit(q, d - 1)
     }
 }
 
@@ -189,21 +216,25 @@ pub fn even_cut(w: RoundBitWord, d: u64) -> CutAnswer<RoundBit>
 
 // Widen on the right by d: zero digits are appended in the signed-digit reading.
 
-// a * 2^d + r * (2^d - 1), which is (a + r) * 2^d - r.
-fn widened(n: RoundBit, d: u64) -> i64
-    requires { (d ≤ 61) × (mag n.0 < 2 ^ (62 - d)) × (n.1 ≤ 1) }
-    ensures { result ≡ (n.0 *ℤ pos (2 ^ d)) +ℤ pos (n.1 * (2 ^ d - 1)) }
-{
-    let r = n.1 as i64;
-    ((n.0 + r) << d) - r
+impl RightNumber {
+    // a * 2^d + r * (2^d - 1), which is (a + r) * 2^d - r.
+    fn widened(self, d: u64) -> i64
+        requires { (d ≤ 61) × (mag self.number.0 < 2 ^ (62 - d)) }
+        ensures { result ≡ (self.number.0 *ℤ pos (2 ^ d)) +ℤ pos (self.number.1 * (2 ^ d - 1)) }
+    {
+        let a = self.number.0;
+        let r = self.number.1 as i64;
+        ((a + r) << d) - r
+    }
 }
 
 fn widen_word(w: RoundBitWord, d: u64) -> Result<RoundBitWord, Cause>
     ensures { result ≡ given (widen_check w d) (widen_word w d) }
 {
     let format = w.widened_format(d)?;
+    let n = RightNumber { number: w.number };
     Ok(Word {
-        number: RoundBit(widened(w.number, d), w.number.1),
+        number: RoundBit(n.widened(d), w.number.1),
         format,
     })
 }
@@ -265,32 +296,28 @@ fn cross_product(a: u64, ra: u64, b: u64, rb: u64) -> u64
     a * b + a * rb + b * ra
 }
 
-fn magnitude_product(m: RoundBit, n: RoundBit) -> RoundBit
-    requires { (m.1 ≤ 1) × (n.1 ≤ 1) × (pos 0 ≤ℤ m.0) × (pos 0 ≤ℤ n.0) × ((mag m.0 + 1) * (mag n.0 + 1) ≤ 2 ^ 62) }
-    ensures { result ≡ magnitude_product m n }
-{
-    let p = cross_product(m.0 as u64, m.1 as u64, n.0 as u64, n.1 as u64);
-    RoundBit(p as i64, m.1 & n.1)
-}
+impl RightNumber {
+    fn magnitude_product(self, other: RightNumber) -> RightNumber
+        requires { (pos 0 ≤ℤ self.number.0) × (pos 0 ≤ℤ other.number.0) × ((mag self.number.0 + 1) * (mag other.number.0 + 1) ≤ 2 ^ 62) }
+        ensures { result.number ≡ magnitude_product self.number other.number }
+    {
+        let RoundBit(a, ra) = self.number;
+        let RoundBit(b, rb) = other.number;
+        let p = cross_product(a as u64, ra as u64, b as u64, rb as u64);
+        RightNumber {
+            number: RoundBit(p as i64, ra & rb),
+        }
+    }
 
-fn sign_changed_if(test: bool, n: RoundBit) -> RoundBit
-    requires { n.1 ≤ 1 }
-    ensures { result ≡ sign_changed_if test n }
-{
-    if test { sign_changed(n) } else { n }
-}
-
-// Product: of the magnitudes, sign-changed if exactly one number was negative.
-fn multiplied(m: RoundBit, n: RoundBit) -> RoundBit
-    requires { (m.1 ≤ 1) × (n.1 ≤ 1) × ((mag m.0 + 1) * (mag n.0 + 1) ≤ 2 ^ 62) }
-    ensures { result ≡ multiplied m n }
-{
-    let p = m.0 < 0;
-    let q = n.0 < 0;
-    let a = sign_changed_if(p, m);
-    let b = sign_changed_if(q, n);
-    let z = magnitude_product(a, b);
-    sign_changed_if(p ^ q, z)
+    // Product: of the magnitudes, sign-changed if exactly one number was negative.
+    fn multiplied(self, other: RightNumber) -> RightNumber
+        requires { (mag self.number.0 + 1) * (mag other.number.0 + 1) ≤ 2 ^ 62 }
+        ensures { result.number ≡ multiplied self.number other.number }
+    {
+        let exactly_one = (self.number.0 < 0) ^ (other.number.0 < 0);
+        let z = self.magnitude().magnitude_product(other.magnitude());
+        z.sign_changed_if(exactly_one)
+    }
 }
 
 fn formats_multiplied(f: Format, g: Format) -> Result<Format, Cause>
@@ -309,8 +336,10 @@ fn product_word(x: RoundBitWord, y: RoundBitWord) -> Result<RoundBitWord, Cause>
     x.check()?;
     y.check()?;
     let format = formats_multiplied(x.format, y.format)?;
+    let m = RightNumber { number: x.number };
+    let n = RightNumber { number: y.number };
     Ok(Word {
-        number: multiplied(x.number, y.number),
+        number: m.multiplied(n).number,
         format,
     })
 }

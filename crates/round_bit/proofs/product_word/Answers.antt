@@ -8,6 +8,12 @@ use Rattle.round_bit.proofs.product_word.Goals as goal
 pub formats_multiplied-requires : goal.formats_multiplied-requires
 formats_multiplied-requires c = (round_bit_right c.args.x (sym c.in_ok-check.ensures)).format.narrow
 
+pub invariant_of-m : goal.invariant_of-m
+invariant_of-m c = record { bit = (round_bit_right c.args.x (sym c.in_ok-check.ensures)).bit }
+
+pub invariant_of-n : goal.invariant_of-n
+invariant_of-n c = record { bit = (round_bit_right c.args.y (sym c.in_ok-check-2.ensures)).bit }
+
 pub multiplied-requires : goal.multiplied-requires
 multiplied-requires c =
     product_room c.args.x c.args.y

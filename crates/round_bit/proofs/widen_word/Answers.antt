@@ -15,7 +15,7 @@ use Rattle.round_bit.specs.Cuts.{widen_word, widen_check}
 use Rattle.round_bit.proofs.Checks.{widen_passed}
 use Rattle.round_bit.proofs.widen_word.Goals as goal
 
-room : (w : RoundBitWord) (d : ℕ) → widen_check w d ≡ Done → (d ≤ 61) × (mag w.number.0 < 2 ^ (62 - d)) × (w.number.1 ≤ 1)
+room : (w : RoundBitWord) (d : ℕ) → widen_check w d ≡ Done → (d ≤ 61) × (mag w.number.0 < 2 ^ (62 - d))
 room w d e =
     let p = widen_passed w d e in
     let g = round_bit_right w p.0 in
@@ -23,8 +23,10 @@ room w d e =
     let f = answer_right (wider w.format d) n p.1 in (
       omega (arith, f.wide, g.format.narrow),
       lt_of_lt_of_le g.size (pow_mono {i = w.format.width - 1} {j = 62 - d} (omega (arith, f.wide))),
-      g.bit,
     )
+
+pub invariant_of-n : goal.invariant_of-n
+invariant_of-n c = record { bit = (round_bit_right c.args.w (widen_passed _ _ (ok_given _ _ _ c.in_ok-format.ensures).0).0).bit }
 
 pub widened-requires : goal.widened-requires
 widened-requires c = room c.args.w c.args.d (ok_given _ _ _ c.in_ok-format.ensures).0
