@@ -35,9 +35,9 @@ pub struct CutAndRest {
 
 // A number whose round bit is 0 or 1, as that of every word that passed its check.
 #[derive(Clone, Copy)]
-struct RightNumber {
-    number: RoundBit,
-    ghost bit: { number.1 ≤ 1 },
+pub struct RightNumber {
+    pub number: RoundBit,
+    pub ghost bit: { number.1 ≤ 1 },
 }
 
 impl RightNumber {
@@ -185,25 +185,19 @@ impl RightNumber {
     }
 }
 
-fn even_cut_round_bit(w: RoundBitWord, q: i64, d: u64) -> u8
-    requires { (cut_check w d ≡ Done) × (q ≡ floor_by w.number.0 d) }
-    ensures { result ≡ (even_cut_word w d).number.1 }
-{
-    if d == 0 {
-        w.number.1
-    } else {
-        RightNumber { number: w.number }.even_round_bit(q, d - 1)
-    }
-}
-
 fn even_cut_word(w: RoundBitWord, d: u64) -> Result<RoundBitWord, Cause>
     ensures { result ≡ given (cut_check w d) (even_cut_word w d) }
 {
     let format = w.cut_format(d)?;
-    let number = integers::floor_by(w.number.0, d);
-    let even = even_cut_round_bit(w, number, d);
+    let q = integers::floor_by(w.number.0, d);
+    let n = RightNumber { number: w.number };
+    let even = if d == 0 {
+        w.number.1
+    } else {
+        n.even_round_bit(q, d - 1)
+    };
     Ok(Word {
-        number: RoundBit(number, even),
+        number: RoundBit(q, even),
         format,
     })
 }

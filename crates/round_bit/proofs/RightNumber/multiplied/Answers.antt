@@ -1,10 +1,8 @@
 use mir.Syntax.{w64}
 use mir.Val.{SFits}
 use mir.Facts.{to_z-of_z}
-use native.Mathlib.Omega.{arith}
-use lib.Bits.{and_le_l}
 use Rattle.integers.proofs.ExactlyOne.{exactly_one_lem}
-use Rattle.round_bit.specs.Arithmetic.{magnitude, magnitude_product, multiplied}
+use Rattle.round_bit.specs.Arithmetic.{multiplied}
 use Rattle.round_bit.proofs.Magnitudes.{magnitude_right}
 use borrow.Author.Rules.{rules}
 use Rattle.round_bit.proofs.RightNumber.multiplied.Goals as goal
