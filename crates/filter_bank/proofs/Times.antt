@@ -1,6 +1,6 @@
 -- A product by the values of its words, as the code makes it, and a sum: their numbers are far inside an i64. Assumes nothing.
--- Proved here: `turned_xor`, `turned_bit`, `product_bit_is`, `worth_fits`, `value_room`, `number_room`, `product_made`, `sum_room`.
-use Prim.Native.Nat.{ℕ, zero, suc, ◌^◌, ◌≤◌, ◌<◌}
+-- Proved here: `turned_xor`, `product_bit_is`, `value_room`, `number_room`, `product_made`, `sum_room`.
+use Prim.Native.Nat.{ℕ, zero, suc, ◌-◌, ◌^◌, ◌≤◌, ◌<◌}
 use native.Mathlib.Omega.{arith}
 use mathlib.Core.Path.{◌≡◌, refl}
 use mathlib.Core.Bool.{Bool, true, false}
@@ -15,31 +15,34 @@ use Rattle.integers.proofs.Kit.{ints, plus_law, minus_law, size_range}
 use Rattle.words.specs.declared.RoundBit.{RoundBit}
 use Rattle.words.proofs.Operands.{Sums}
 use Rattle.round_bit.specs.Arithmetic.{negative, sign_changed_if, magnitude, magnitude_product, multiplied}
+use Rattle.round_bit.proofs.Laws.Signs.{signs_if_bit}
 use Rattle.round_bit.proofs.Laws.Multiplied.{multiplied_bit, multiplied_size, multiplied_value}
 
 -- ---- the round bit
-pub turned_xor : (b : Bool) (r : ℕ) → r ≤ 1 → bit_xor r (bool_byte b) ≡ (sign_changed_if b (record { 0 = pos 0; 1 = r })).1
-turned_xor true zero h = refl
-turned_xor true (suc zero) h = refl
-turned_xor true (suc (suc r)) h = absurd (omega arith)
-turned_xor false zero h = refl
-turned_xor false (suc zero) h = refl
-turned_xor false (suc (suc r)) h = absurd (omega arith)
+pub turned_xor : (b : Bool) (n : RoundBit) → n.1 ≤ 1 → bit_xor n.1 (bool_byte b) ≡ (sign_changed_if b n).1
+turned_xor true n h = over n.1 h
+  where
+    over : (r : ℕ) → r ≤ 1 → bit_xor r 1 ≡ 1 - r
+    over zero h = refl
+    over (suc zero) h = refl
+    over (suc (suc r)) h = absurd (omega arith)
+turned_xor false n h = kept n.1 h
+  where
+    kept : (r : ℕ) → r ≤ 1 → bit_xor r 0 ≡ r
+    kept zero h = refl
+    kept (suc zero) h = refl
+    kept (suc (suc r)) h = absurd (omega arith)
 
--- a sign change asks of the round bit alone what becomes of it
-pub turned_bit : (b : Bool) (n : RoundBit) → (sign_changed_if b n).1 ≡ (sign_changed_if b (record { 0 = pos 0; 1 = n.1 })).1
-turned_bit true n = refl
-turned_bit false n = refl
-
-pub product_bit_is : (m n : RoundBit) →
-    (multiplied m n).1 ≡ (sign_changed_if (exactly_one (negative m) (negative n)) (record { 0 = pos 0; 1 = bit_and (magnitude m).1 (magnitude n).1 })).1
+pub product_bit_is : (m n : RoundBit) → m.1 ≤ 1 →
+    bit_xor (bit_and (magnitude m).1 (magnitude n).1) (bool_byte (exactly_one (negative m) (negative n))) ≡ (multiplied m n).1
 unfolding multiplied magnitude_product
-product_bit_is m n = turned_bit (exactly_one (negative m) (negative n)) (magnitude_product (magnitude m) (magnitude n))
+product_bit_is m n h =
+    let x = magnitude m in
+    let y = magnitude n in
+    let bit : bit_and x.1 y.1 ≤ 1 = omega (arith, signs_if_bit (negative m) m h, and_le_l x.1 y.1) in
+    turned_xor (exactly_one (negative m) (negative n)) (magnitude_product x y) bit
 
 -- ---- the number: the product's value less its round bit
-pub worth_fits : (a : ℤ) (r : ℕ) → mag a < 2 ^ 15 → r ≤ 1 → SFits w64 (a +ℤ pos r)
-worth_fits a r h b = omega (ints, size_range (2 ^ 15) a h, b, plus_law a (pos r))
-
 abbrev valued : RoundBit → RoundBit → ℤ
 valued m n = (m.0 +ℤ pos m.1) *ℤ (n.0 +ℤ pos n.1)
 
