@@ -1,5 +1,5 @@
--- A product by the values of its words, as the code makes it, and a sum: their numbers are far inside an i64. Assumes nothing.
--- Proved here: `turned_xor`, `product_bit_is`, `value_room`, `number_room`, `product_made`, `sum_room`.
+-- A product by the values of its words, as the code makes it: its number is far inside an i64. Assumes nothing.
+-- Proved here: `turned_xor`, `product_bit_is`, `product_made`.
 use Prim.Native.Nat.{ℕ, zero, suc, ◌-◌, ◌^◌, ◌≤◌, ◌<◌}
 use native.Mathlib.Omega.{arith}
 use mathlib.Core.Path.{◌≡◌, refl}
@@ -13,7 +13,6 @@ use mir.Facts.{to_z-of_z, to_z_pos}
 use Rattle.integers.specs.Numbers.{exactly_one}
 use Rattle.integers.proofs.Kit.{ints, plus_law, minus_law, size_range}
 use Rattle.words.specs.declared.RoundBit.{RoundBit}
-use Rattle.words.proofs.Operands.{Sums}
 use Rattle.round_bit.specs.Arithmetic.{negative, sign_changed_if, magnitude, magnitude_product, multiplied}
 use Rattle.round_bit.proofs.Laws.Signs.{signs_if_bit}
 use Rattle.round_bit.proofs.Laws.Multiplied.{multiplied_bit, multiplied_size, multiplied_value}
@@ -71,27 +70,11 @@ module _ (m n : RoundBit) (h : mag m.0 < 2 ^ 11) (b : m.1 ≤ 1) (k : mag n.0 < 
 
   -- of the values x and y and the round bit r, as the machine has them
   module _ (x y : ℤ) (r : ℕ) (e : x ≡ m.0 +ℤ pos m.1) (f : y ≡ n.0 +ℤ pos n.1) (g : r ≡ (multiplied m n).1) where
-    pub value_room : SFits w64 (x *ℤ y)
+    value_room : SFits w64 (x *ℤ y)
     value_room = rw (e, f) value_fits
 
-    pub number_room : SFits w64 (to_z w64 (of_z w64 (x *ℤ y)) -ℤ to_z w64 r)
+    number_room : SFits w64 (to_z w64 (of_z w64 (x *ℤ y)) -ℤ to_z w64 r)
     number_room = rw (to_z-of_z value_room, e, f, g, bit_told) number_fits
 
     pub product_made : record { 0 = to_z w64 (of_z w64 (to_z w64 (of_z w64 (x *ℤ y)) -ℤ to_z w64 r)); 1 = r } ≡ multiplied m n
     product_made = rw (to_z-of_z number_room, to_z-of_z value_room, e, f, g, bit_told, number_is)
-
--- ---- and a sum of two of them
-pub sum_room : (m n : RoundBit) → mag m.0 < 2 ^ 29 → m.1 ≤ 1 → mag n.0 < 2 ^ 29 → Sums m.0 n.0 (bit_and m.1 n.1)
-sum_room m n h b k =
-    let x = size_range (2 ^ 29) m.0 h in
-    let y = size_range (2 ^ 29) n.0 k in
-    let c = bit_and m.1 n.1 in
-    let one = and_le_l m.1 n.1 in
-    let two = plus_law m.0 n.0 in
-    record {
-      first = omega (ints, x);
-      second = omega (ints, y);
-      carry = omega (ints, one, b);
-      two = omega (ints, x, y, two);
-      all = omega (ints, x, y, two, one, b, plus_law (m.0 +ℤ n.0) (pos c));
-    }

@@ -19,7 +19,7 @@ ghost use Rattle.words.specs.Formats.{answer_check};
 ghost use Rattle.words.specs.RoundBit.{round_bit_check};
 ghost use Rattle.words.specs.Plain.{plain_check};
 ghost use Rattle.round_bit.specs.Cuts.{sign_changed, sign_change_word, sign_change_of, cut_check, cut_word, cut_of, rest_word, rest_of, cut_and_rest_of, even_round_bit, even_cut_word, even_cut_of, widen_check, widen_word, widen_of};
-ghost use Rattle.round_bit.specs.Arithmetic.{sum_check, sum_word, sum_of, difference_of, magnitude_product, sign_changed_if, magnitude, multiplied, product_format, product_check, product_word, product_of, to_plain_word, to_plain_of, from_plain_word, from_plain_of};
+ghost use Rattle.round_bit.specs.Arithmetic.{added, sum_check, sum_word, sum_of, difference_of, magnitude_product, sign_changed_if, magnitude, multiplied, product_format, product_check, product_word, product_of, to_plain_word, to_plain_of, from_plain_word, from_plain_of};
 
 use words::{
     Cause, CutAnswer, Format, Plain, PlainAnswer, PlainWord, RoundBit, RoundBitAnswer,
@@ -64,28 +64,21 @@ impl RightNumber {
     }
 }
 
-fn sign_change_word(w: RoundBitWord) -> RoundBitWord
-    requires { round_bit_check w ≡ Done }
-    ensures { result ≡ sign_change_word w }
-{
-    let n = RightNumber { number: w.number };
-    Word {
-        number: n.sign_changed().number,
-        ..w
-    }
-}
-
-fn turned(w: RoundBitWord) -> Result<RoundBitWord, Cause>
+fn sign_change_word(w: RoundBitWord) -> Result<RoundBitWord, Cause>
     ensures { result ≡ given (round_bit_check w) (sign_change_word w) }
 {
     w.check()?;
-    Ok(sign_change_word(w))
+    let n = RightNumber { number: w.number };
+    Ok(Word {
+        number: n.sign_changed().number,
+        format: w.format,
+    })
 }
 
 pub fn sign_change(w: RoundBitWord) -> RoundBitAnswer
     ensures { result ≡ sign_change_of w }
 {
-    turned(w).into()
+    sign_change_word(w).into()
 }
 
 // Cut by d: the floor, and the highest digit that goes as the round bit.
@@ -239,47 +232,58 @@ pub fn widen(w: RoundBitWord, d: u64) -> RoundBitAnswer
     widen_word(w, d).into()
 }
 
-// Sum: (a + b + (ra and rb), ra or rb). 8 tests the number, not the value.
-fn sum_word(x: RoundBitWord, y: RoundBitWord) -> RoundBitWord
-    requires { sum_check x y ≡ Done }
-    ensures { result ≡ sum_word x y }
-{
-    Word {
-        number: RoundBit(
-            x.number.0 + y.number.0 + (x.number.1 & y.number.1) as i64,
-            x.number.1 | y.number.1,
-        ),
-        ..x
+impl RightNumber {
+    // Sum: (a + b + (ra and rb), ra or rb).
+    fn added(self, other: RightNumber) -> RoundBit
+        requires { (mag self.number.0 < 2 ^ 62) × (mag other.number.0 < 2 ^ 62) }
+        ensures { result ≡ added self.number other.number }
+    {
+        let RoundBit(a, ra) = self.number;
+        let RoundBit(b, rb) = other.number;
+        RoundBit(a + b + (ra & rb) as i64, ra | rb)
     }
 }
 
-fn added(x: RoundBitWord, y: RoundBitWord) -> Result<RoundBitWord, Cause>
+// 8 tests the number of the sum, not its value.
+fn sum_word(x: RoundBitWord, y: RoundBitWord) -> Result<RoundBitWord, Cause>
     ensures { let z = sum_word x y in result ≡ (sum_check x y then given (refuse 8 (outside z.format z.number.0)) z) }
 {
     x.sum_check(y)?;
-    sum_word(x, y).fitted()
+    let m = RightNumber { number: x.number };
+    let n = RightNumber { number: y.number };
+    let sum = Word {
+        number: m.added(n),
+        format: x.format,
+    };
+    sum.fitted()
 }
 
 #[tactic(auto, using(words::proofs::Given::answer_fitted), unfolding(words::specs::RoundBit::round_bit_fitted))]
 pub fn sum(x: RoundBitWord, y: RoundBitWord) -> RoundBitAnswer
     ensures { result ≡ sum_of x y }
 {
-    added(x, y).into()
+    sum_word(x, y).into()
 }
 
 // Difference: the sum with the second operand's sign changed.
-fn taken_off(x: RoundBitWord, y: RoundBitWord) -> Result<RoundBitWord, Cause>
+fn difference_word(x: RoundBitWord, y: RoundBitWord) -> Result<RoundBitWord, Cause>
     ensures { let z = sum_word x (sign_change_word y) in result ≡ (sum_check x y then given (refuse 8 (outside z.format z.number.0)) z) }
 {
     x.sum_check(y)?;
-    sum_word(x, sign_change_word(y)).fitted()
+    let m = RightNumber { number: x.number };
+    let n = RightNumber { number: y.number };
+    let difference = Word {
+        number: m.added(n.sign_changed()),
+        format: x.format,
+    };
+    difference.fitted()
 }
 
 #[tactic(auto, using(words::proofs::Given::answer_fitted), unfolding(words::specs::RoundBit::round_bit_fitted))]
 pub fn difference(x: RoundBitWord, y: RoundBitWord) -> RoundBitAnswer
     ensures { result ≡ difference_of x y }
 {
-    taken_off(x, y).into()
+    difference_word(x, y).into()
 }
 
 // Product of numbers that are not negative: (ab + a rb + b ra, ra rb).
