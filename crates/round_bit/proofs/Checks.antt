@@ -1,11 +1,12 @@
 -- What a done answer and a passed check of each operation tell, and the definitions by depth at a depth that is not 0. Assumes nothing.
--- Proved here: `word_done`, `word_outcome`, `cut_passed`, `widen_passed`, `sum_right`, `product_passed`, `cut_made`, `rest_made`, `cut_bit`,
+-- Proved here: `word_done`, `word_outcome`, `cut_passed`, `widen_passed`, `sum_right`, `sum_room`, `product_passed`, `cut_made`, `rest_made`, `cut_bit`,
 -- `rest_bit`.
 use Rattle.std.specs.Prelude.{Ok, Err}
-use Prim.Native.Nat.{ℕ, zero, suc, ◌-◌}
+use Prim.Native.Nat.{ℕ, zero, suc, ◌-◌, ◌^◌, ◌<◌}
 use native.Mathlib.Omega.{arith}
 use mathlib.Core.Path.{◌≡◌, refl}
 use lib.IntN.{ℤ}
+use lib.Signed.{mag}
 use mir.Syntax.{w64}
 use mir.Val.{SFits, to_z, of_z}
 use mir.Facts.{to_z-of_z}
@@ -17,7 +18,7 @@ use Rattle.words.specs.Outcomes.{Outcome}
 use Rattle.words.specs.Outcomes.{Done}
 use Rattle.words.specs.declared.Format.{Format}
 use Rattle.words.specs.Kinds.{RoundBitWord}
-use Rattle.words.proofs.Laws.{refused_not_done, both_passed, three_passed, RightRoundBit, round_bit_right}
+use Rattle.words.proofs.Laws.{refused_not_done, both_passed, three_passed, RightRoundBit, round_bit_right, small}
 use Rattle.words.proofs.Formats.{narrower_none}
 use Rattle.words.proofs.Operands.{outcome_kept}
 use Rattle.round_bit.specs.Cuts.{cut_by, cut_check, rest_word, widen_check}
@@ -39,6 +40,10 @@ widen_passed w d e = both_passed (round_bit_check w) (answer_check (wider w.form
 
 pub sum_right : (x y : RoundBitWord) → sum_check x y ≡ Done → RightRoundBit x × RightRoundBit y
 sum_right x y e = let p = three_passed (round_bit_check x) (round_bit_check y) _ e in (round_bit_right x p.0, round_bit_right y p.1)
+
+-- their numbers are far inside an i64
+pub sum_room : (x y : RoundBitWord) → sum_check x y ≡ Done → (mag x.number.0 < 2 ^ 62) × (mag y.number.0 < 2 ^ 62)
+sum_room x y e = let p = sum_right x y e in (small p.0, small p.1)
 
 pub product_passed : (x y : RoundBitWord) → product_check x y ≡ Done →
     (round_bit_check x ≡ Done) × (round_bit_check y ≡ Done) × (answer_check (product_format x.format y.format) ≡ Done)

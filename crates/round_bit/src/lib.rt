@@ -64,6 +64,7 @@ impl RightNumber {
     }
 }
 
+#[tactic(auto, unfolding(crate::specs::Cuts::sign_change_word), using(words::proofs::Laws::Rights::right))]
 fn sign_change_word(w: RoundBitWord) -> Result<RoundBitWord, Cause>
     ensures { result ≡ given (round_bit_check w) (sign_change_word w) }
 {
@@ -82,6 +83,7 @@ pub fn sign_change(w: RoundBitWord) -> RoundBitAnswer
 }
 
 // Cut by d: the floor, and the highest digit that goes as the round bit.
+#[tactic(auto, unfolding(crate::specs::Cuts::cut_by), using(crate::proofs::Checks::cut_bit))]
 fn cut_round_bit(w: RoundBitWord, d: u64) -> u8
     ensures { result ≡ (cut_word w d).number.1 }
 {
@@ -111,6 +113,7 @@ pub fn cut(w: RoundBitWord, d: u64) -> CutAnswer<RoundBit>
 }
 
 // Rest of a cut: the low digits, and the old round bit, which the cut dropped.
+#[tactic(auto, unfolding(crate::specs::Cuts::rest_word), using(crate::proofs::Checks::rest_bit))]
 fn rest_round_bit(w: RoundBitWord, d: u64) -> u8
     ensures { result ≡ (rest_word w d).number.1 }
 {
@@ -245,6 +248,7 @@ impl RightNumber {
 }
 
 // 8 tests the number of the sum, not its value.
+#[tactic(auto, unfolding(crate::specs::Arithmetic::sum_word), using(crate::proofs::Checks::sum_right, crate::proofs::Checks::sum_room))]
 fn sum_word(x: RoundBitWord, y: RoundBitWord) -> Result<RoundBitWord, Cause>
     ensures { let z = sum_word x y in result ≡ (sum_check x y then given (refuse 8 (outside z.format z.number.0)) z) }
 {
@@ -266,6 +270,7 @@ pub fn sum(x: RoundBitWord, y: RoundBitWord) -> RoundBitAnswer
 }
 
 // Difference: the sum with the second operand's sign changed.
+#[tactic(auto, unfolding(crate::specs::Arithmetic::sum_word, crate::specs::Cuts::sign_change_word), using(crate::proofs::Checks::sum_right, crate::proofs::Checks::sum_room, integers::proofs::Floor::turned_size))]
 fn difference_word(x: RoundBitWord, y: RoundBitWord) -> Result<RoundBitWord, Cause>
     ensures { let z = sum_word x (sign_change_word y) in result ≡ (sum_check x y then given (refuse 8 (outside z.format z.number.0)) z) }
 {
