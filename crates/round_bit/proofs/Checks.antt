@@ -2,9 +2,11 @@
 -- Proved here: `word_done`, `word_outcome`, `cut_passed`, `widen_passed`, `sum_right`, `sum_room`, `product_passed`, `cut_made`, `rest_made`, `cut_bit`,
 -- `rest_bit`.
 use Rattle.std.specs.Prelude.{Ok, Err}
-use Prim.Native.Nat.{ℕ, zero, suc, ◌-◌, ◌^◌, ◌<◌}
+use Prim.Native.Nat.{ℕ, zero, suc, ◌+◌, ◌-◌, ◌^◌, ◌<◌, ◌≤◌}
 use native.Mathlib.Omega.{arith}
+use native.Mathlib.Nat.{lt_of_lt_of_le}
 use mathlib.Core.Path.{◌≡◌, refl}
+use lib.Pow.{pow_mono}
 use lib.IntN.{ℤ}
 use lib.Signed.{mag}
 use mir.Syntax.{w64}
@@ -19,7 +21,7 @@ use Rattle.words.specs.Outcomes.{Done}
 use Rattle.words.specs.declared.Format.{Format}
 use Rattle.words.specs.Kinds.{RoundBitWord}
 use Rattle.words.proofs.Laws.{refused_not_done, both_passed, three_passed, RightRoundBit, round_bit_right, small}
-use Rattle.words.proofs.Formats.{narrower_none}
+use Rattle.words.proofs.Formats.{narrower_none, answer_right}
 use Rattle.words.proofs.Operands.{outcome_kept}
 use Rattle.round_bit.specs.Cuts.{cut_by, cut_check, rest_word, widen_check}
 use Rattle.round_bit.specs.Arithmetic.{sum_check, product_format, product_check}
@@ -37,6 +39,17 @@ cut_passed w d e = both_passed (round_bit_check w) (narrower_check w.format d) e
 
 pub widen_passed : (w : RoundBitWord) (d : ℕ) → widen_check w d ≡ Done → (round_bit_check w ≡ Done) × (answer_check (wider w.format d) ≡ Done)
 widen_passed w d e = both_passed (round_bit_check w) (answer_check (wider w.format d)) e
+
+pub widen_right : (w : RoundBitWord) (d : ℕ) → widen_check w d ≡ Done → RightRoundBit w
+widen_right w d e = round_bit_right w (widen_passed w d e).0
+
+pub widen_room : (w : RoundBitWord) (d : ℕ) → widen_check w d ≡ Done → (d ≤ 61) × (mag w.number.0 < 2 ^ (62 - d))
+widen_room w d e =
+    let p = widen_passed w d e in
+    let g = round_bit_right w p.0 in
+    let n : 2 ≤ w.format.width + d = omega (arith, g.format.narrow) in
+    let f = answer_right (wider w.format d) n p.1 in
+    (omega (arith, f.wide, g.format.narrow), lt_of_lt_of_le g.size (pow_mono {i = w.format.width - 1} {j = 62 - d} (omega (arith, f.wide))))
 
 pub sum_right : (x y : RoundBitWord) → sum_check x y ≡ Done → RightRoundBit x × RightRoundBit y
 sum_right x y e = let p = three_passed (round_bit_check x) (round_bit_check y) _ e in (round_bit_right x p.0, round_bit_right y p.1)

@@ -94,6 +94,7 @@ fn cut_round_bit(w: RoundBitWord, d: u64) -> u8
     }
 }
 
+#[tactic(auto, using(words::proofs::Given::ok_given, crate::proofs::Checks::cut_made))]
 fn cut_word(w: RoundBitWord, d: u64) -> Result<RoundBitWord, Cause>
     ensures { result ≡ given (cut_check w d) (cut_word w d) }
 {
@@ -120,6 +121,7 @@ fn rest_round_bit(w: RoundBitWord, d: u64) -> u8
     if d == 0 { 0 } else { w.number.1 }
 }
 
+#[tactic(auto, using(crate::proofs::Checks::rest_made))]
 fn rest_word(w: RoundBitWord, d: u64) -> RoundBitWord
     ensures { result ≡ rest_word w d }
 {
@@ -218,6 +220,7 @@ impl RightNumber {
     }
 }
 
+#[tactic(auto, unfolding(crate::specs::Cuts::widen_word), using(words::proofs::Given::ok_given, crate::proofs::Checks::widen_right, crate::proofs::Checks::widen_room))]
 fn widen_word(w: RoundBitWord, d: u64) -> Result<RoundBitWord, Cause>
     ensures { result ≡ given (widen_check w d) (widen_word w d) }
 {
@@ -313,6 +316,7 @@ impl RightNumber {
     }
 
     // Product: of the magnitudes, sign-changed if exactly one number was negative.
+    #[tactic(auto, unfolding(crate::specs::Arithmetic::multiplied), using(integers::proofs::ExactlyOne::exactly_one_lem, crate::proofs::Magnitudes::magnitude_right))]
     fn multiplied(self, other: RightNumber) -> RightNumber
         requires { (mag self.number.0 + 1) * (mag other.number.0 + 1) ≤ 2 ^ 62 }
         ensures { result.number ≡ multiplied self.number other.number }
@@ -333,6 +337,7 @@ fn formats_multiplied(f: Format, g: Format) -> Result<Format, Cause>
     )
 }
 
+#[tactic(auto, unfolding(crate::specs::Arithmetic::product_word), using(words::proofs::Given::ok_given, words::proofs::Laws::Rights::right, crate::proofs::Magnitudes::product_room))]
 fn product_word(x: RoundBitWord, y: RoundBitWord) -> Result<RoundBitWord, Cause>
     ensures { result ≡ given (product_check x y) (product_word x y) }
 {
