@@ -1,5 +1,5 @@
 -- The loop that adds the products of a row: what it has when it starts, what a turn does, and what it has at the end. Assumes nothing.
--- Proved here: `size`, `bit`, `left`, `tap_small`, `sample_small`, `times_small`, `first_kept`, `next_kept`, `all_kept`, `added_format`, `total_format`.
+-- Proved here: `size`, `bit`, `left`, `tap_small`, `sample_small`, `tap_bit`, `sample_bit`, `times_small`, `first_kept`, `next_kept`, `all_kept`, `added_format`, `total_format`.
 use Prim.Native.Nat.{ℕ, ◌+◌, ◌-◌, ◌*◌, ◌^◌, ◌≤◌, ◌<◌}
 use native.Mathlib.Omega.{arith}
 use mathlib.Core.Path.{◌≡◌, refl}
@@ -34,6 +34,12 @@ module _ (ts ss : List RoundBitWord) (check : row_check ts ss ≡ Done) (i : ℕ
 
   pub sample_small : i < length ss → Small 15 (word_at ss i).number
   sample_small = good_small _ ss i (row_tells ts ss check).1
+
+  pub tap_bit : i < length ts → (word_at ts i).number.1 ≤ 1
+  tap_bit h = (tap_small h).bit
+
+  pub sample_bit : i < length ss → (word_at ss i).number.1 ≤ 1
+  sample_bit h = (sample_small h).bit
 
 product_small : (m n : RoundBit) → Small 11 m → Small 15 n → Small 26 (multiplied m n)
 product_small m n s t = record { size = multiplied_size m n 11 15 s.size t.size s.bit t.bit; bit = multiplied_bit m n s.bit }

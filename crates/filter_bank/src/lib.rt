@@ -140,6 +140,7 @@ impl Row {
     }
 
     // Tap i times its sample.
+    #[tactic(auto, using(crate::proofs::Summing::tap_small, crate::proofs::Summing::sample_small, crate::proofs::Summing::tap_bit, crate::proofs::Summing::sample_bit))]
     fn product(self, i: usize) -> RoundBit
         requires { (row_check self.taps self.window ≡ Done) × (i < 8) }
         ensures { result ≡ multiplied (word_at self.taps i).number (word_at self.window i).number }
