@@ -1,5 +1,6 @@
 -- The loop that adds the products of a row: what it has when it starts, what a turn does, and what it has at the end. Assumes nothing.
--- Proved here: `size`, `bit`, `left`, `tap_small`, `sample_small`, `tap_bit`, `sample_bit`, `times_small`, `first_kept`, `next_kept`, `all_kept`, `added_format`, `total_format`.
+-- Proved here: `size`, `bit`, `left`, `tap_small`, `sample_small`, `tap_bit`, `sample_bit`, `times_small`, `first_kept`, `next_kept`, `all_kept`,
+-- `added_format`, `total_format`.
 use Prim.Native.Nat.{ℕ, ◌+◌, ◌-◌, ◌*◌, ◌^◌, ◌≤◌, ◌<◌}
 use native.Mathlib.Omega.{arith}
 use mathlib.Core.Path.{◌≡◌, refl}
