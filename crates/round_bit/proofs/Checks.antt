@@ -1,6 +1,6 @@
 -- What a done answer and a passed check of each operation tell, and the definitions by depth at a depth that is not 0. Assumes nothing.
--- Proved here: `word_done`, `word_outcome`, `cut_passed`, `widen_passed`, `sum_right`, `sum_room`, `product_passed`, `cut_made`, `rest_made`, `cut_bit`,
--- `rest_bit`.
+-- Proved here: `word_done`, `word_outcome`, `cut_passed`, `widen_passed`, `widen_right`, `widen_room`, `sum_right`, `sum_room`, `product_passed`,
+-- `cut_made`, `rest_made`, `cut_bit`, `rest_bit`.
 use Rattle.std.specs.Prelude.{Ok, Err}
 use Prim.Native.Nat.{ℕ, zero, suc, ◌+◌, ◌-◌, ◌^◌, ◌<◌, ◌≤◌}
 use native.Mathlib.Omega.{arith}
