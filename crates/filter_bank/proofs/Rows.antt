@@ -5,18 +5,17 @@ use native.Mathlib.Omega.{arith}
 use mathlib.Core.Path.{◌≡◌, refl}
 use mathlib.Core.Bool.{false}
 use mathlib.Core.List.{List, [], ◌∷◌}
-use lib.ListN.{length, get_or}
-use lib.IntN.{pos}
+use lib.ListN.{length}
 use Rattle.words.specs.Refusals.{differ}
 use Rattle.words.specs.Formats.{format}
-use Rattle.words.specs.RoundBit.{round_bit_word, round_bit_check}
+use Rattle.words.specs.RoundBit.{round_bit_check}
 use Rattle.words.specs.declared.Cause.TheVariants.{Mismatch}
 use Rattle.words.specs.Outcomes.{Done}
 use Rattle.words.specs.declared.Format.{Format}
 use Rattle.words.specs.Kinds.{RoundBitWord}
 use Rattle.words.proofs.Laws.{passed, both_passed, three_passed, or-false, RightRoundBit, round_bit_right}
 use Rattle.words.proofs.Operands.{same_format}
-use Rattle.filter_bank.specs.Bank.{tap_width, sample_width, words_check, unit_of, any_differ, unlike, row_check}
+use Rattle.filter_bank.specs.Bank.{tap_width, sample_width, words_check, unit_of, any_differ, unlike, row_check, word_at}
 
 -- a word that is right and has this format
 pub record Good (f : Format) (w : RoundBitWord) : Type 0 where
@@ -42,19 +41,12 @@ row_tells taps window e =
     let q = or-false (unlike tap_width taps) (unlike sample_width window) (passed Mismatch _ p.2) in
     (all_good _ taps p.0 q.0, all_good _ window p.1 q.1)
 
--- the word at a place, as the code reads it: past the end it would be nothing
-abbrev pub nothing : RoundBitWord
-nothing = round_bit_word (pos 0) 0 (format 0 (pos 0))
-
-abbrev pub at : List RoundBitWord → ℕ → RoundBitWord
-at ws i = get_or ws i nothing
-
-pub good_at : (f : Format) (ws : List RoundBitWord) (i : ℕ) → AllGood f ws → i < length ws → Good f (at ws i)
+pub good_at : (f : Format) (ws : List RoundBitWord) (i : ℕ) → AllGood f ws → i < length ws → Good f (word_at ws i)
 good_at f [] i g h = absurd (omega arith)
 good_at f (w ∷ more) zero g h = g.0
 good_at f (w ∷ more) (suc i) g h = good_at f more i g.1 (omega arith)
 
 -- the unit that the code takes is the one that the words share
-pub first_unit : (ws : List RoundBitWord) → (at ws 0).format.unit ≡ unit_of ws
+pub first_unit : (ws : List RoundBitWord) → (word_at ws 0).format.unit ≡ unit_of ws
 first_unit [] = refl
 first_unit (w ∷ more) = refl

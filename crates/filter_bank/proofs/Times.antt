@@ -1,6 +1,6 @@
--- A product by the values of its words, as the code makes it, and a sum: their numbers are far inside an i64. Assumes nothing.
--- Proved here: `turned_xor`, `turned_bit`, `product_bit_is`, `worth_fits`, `value_room`, `number_room`, `product_made`, `sum_room`.
-use Prim.Native.Nat.{ℕ, zero, suc, ◌^◌, ◌≤◌, ◌<◌}
+-- A product by the values of its words, as the code makes it: its number is far inside an i64. Assumes nothing.
+-- Proved here: `turned_xor`, `product_bit_is`, `product_made`.
+use Prim.Native.Nat.{ℕ, zero, suc, ◌-◌, ◌^◌, ◌≤◌, ◌<◌}
 use native.Mathlib.Omega.{arith}
 use mathlib.Core.Path.{◌≡◌, refl}
 use mathlib.Core.Bool.{Bool, true, false}
@@ -13,33 +13,35 @@ use mir.Facts.{to_z-of_z, to_z_pos}
 use Rattle.integers.specs.Numbers.{exactly_one}
 use Rattle.integers.proofs.Kit.{ints, plus_law, minus_law, size_range}
 use Rattle.words.specs.declared.RoundBit.{RoundBit}
-use Rattle.words.proofs.Operands.{Sums}
 use Rattle.round_bit.specs.Arithmetic.{negative, sign_changed_if, magnitude, magnitude_product, multiplied}
+use Rattle.round_bit.proofs.Laws.Signs.{signs_if_bit}
 use Rattle.round_bit.proofs.Laws.Multiplied.{multiplied_bit, multiplied_size, multiplied_value}
 
 -- ---- the round bit
-pub turned_xor : (b : Bool) (r : ℕ) → r ≤ 1 → bit_xor r (bool_byte b) ≡ (sign_changed_if b (record { 0 = pos 0; 1 = r })).1
-turned_xor true zero h = refl
-turned_xor true (suc zero) h = refl
-turned_xor true (suc (suc r)) h = absurd (omega arith)
-turned_xor false zero h = refl
-turned_xor false (suc zero) h = refl
-turned_xor false (suc (suc r)) h = absurd (omega arith)
+pub turned_xor : (b : Bool) (n : RoundBit) → n.1 ≤ 1 → bit_xor n.1 (bool_byte b) ≡ (sign_changed_if b n).1
+turned_xor true n h = over n.1 h
+  where
+    over : (r : ℕ) → r ≤ 1 → bit_xor r 1 ≡ 1 - r
+    over zero h = refl
+    over (suc zero) h = refl
+    over (suc (suc r)) h = absurd (omega arith)
+turned_xor false n h = kept n.1 h
+  where
+    kept : (r : ℕ) → r ≤ 1 → bit_xor r 0 ≡ r
+    kept zero h = refl
+    kept (suc zero) h = refl
+    kept (suc (suc r)) h = absurd (omega arith)
 
--- a sign change asks of the round bit alone what becomes of it
-pub turned_bit : (b : Bool) (n : RoundBit) → (sign_changed_if b n).1 ≡ (sign_changed_if b (record { 0 = pos 0; 1 = n.1 })).1
-turned_bit true n = refl
-turned_bit false n = refl
-
-pub product_bit_is : (m n : RoundBit) →
-    (multiplied m n).1 ≡ (sign_changed_if (exactly_one (negative m) (negative n)) (record { 0 = pos 0; 1 = bit_and (magnitude m).1 (magnitude n).1 })).1
+pub product_bit_is : (m n : RoundBit) → m.1 ≤ 1 →
+    bit_xor (bit_and (magnitude m).1 (magnitude n).1) (bool_byte (exactly_one (negative m) (negative n))) ≡ (multiplied m n).1
 unfolding multiplied magnitude_product
-product_bit_is m n = turned_bit (exactly_one (negative m) (negative n)) (magnitude_product (magnitude m) (magnitude n))
+product_bit_is m n h =
+    let x = magnitude m in
+    let y = magnitude n in
+    let bit : bit_and x.1 y.1 ≤ 1 = omega (arith, signs_if_bit (negative m) m h, and_le_l x.1 y.1) in
+    turned_xor (exactly_one (negative m) (negative n)) (magnitude_product x y) bit
 
 -- ---- the number: the product's value less its round bit
-pub worth_fits : (a : ℤ) (r : ℕ) → mag a < 2 ^ 15 → r ≤ 1 → SFits w64 (a +ℤ pos r)
-worth_fits a r h b = omega (ints, size_range (2 ^ 15) a h, b, plus_law a (pos r))
-
 abbrev valued : RoundBit → RoundBit → ℤ
 valued m n = (m.0 +ℤ pos m.1) *ℤ (n.0 +ℤ pos n.1)
 
@@ -68,27 +70,11 @@ module _ (m n : RoundBit) (h : mag m.0 < 2 ^ 11) (b : m.1 ≤ 1) (k : mag n.0 < 
 
   -- of the values x and y and the round bit r, as the machine has them
   module _ (x y : ℤ) (r : ℕ) (e : x ≡ m.0 +ℤ pos m.1) (f : y ≡ n.0 +ℤ pos n.1) (g : r ≡ (multiplied m n).1) where
-    pub value_room : SFits w64 (x *ℤ y)
+    value_room : SFits w64 (x *ℤ y)
     value_room = rw (e, f) value_fits
 
-    pub number_room : SFits w64 (to_z w64 (of_z w64 (x *ℤ y)) -ℤ to_z w64 r)
+    number_room : SFits w64 (to_z w64 (of_z w64 (x *ℤ y)) -ℤ to_z w64 r)
     number_room = rw (to_z-of_z value_room, e, f, g, bit_told) number_fits
 
     pub product_made : record { 0 = to_z w64 (of_z w64 (to_z w64 (of_z w64 (x *ℤ y)) -ℤ to_z w64 r)); 1 = r } ≡ multiplied m n
     product_made = rw (to_z-of_z number_room, to_z-of_z value_room, e, f, g, bit_told, number_is)
-
--- ---- and a sum of two of them
-pub sum_room : (m n : RoundBit) → mag m.0 < 2 ^ 29 → m.1 ≤ 1 → mag n.0 < 2 ^ 29 → Sums m.0 n.0 (bit_and m.1 n.1)
-sum_room m n h b k =
-    let x = size_range (2 ^ 29) m.0 h in
-    let y = size_range (2 ^ 29) n.0 k in
-    let c = bit_and m.1 n.1 in
-    let one = and_le_l m.1 n.1 in
-    let two = plus_law m.0 n.0 in
-    record {
-      first = omega (ints, x);
-      second = omega (ints, y);
-      carry = omega (ints, one, b);
-      two = omega (ints, x, y, two);
-      all = omega (ints, x, y, two, one, b, plus_law (m.0 +ℤ n.0) (pos c));
-    }

@@ -33,6 +33,13 @@ sum_width = 31
 abbrev pub cut_depth : ℕ
 cut_depth = 11
 
+-- the word at a place; past the end, where nothing is read, it would be nothing
+abbrev pub nothing : RoundBitWord
+nothing = round_bit_word (pos 0) 0 (format 0 (pos 0))
+
+abbrev pub word_at : List RoundBitWord → ℕ → RoundBitWord
+word_at ws i = get_or ws i nothing
+
 -- the taps of a channel
 abbrev pub row_of : List (List RoundBitWord) → ℕ → List RoundBitWord
 row_of bank channel = get_or bank channel []

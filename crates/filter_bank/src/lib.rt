@@ -15,9 +15,10 @@ ghost use Rattle.words.specs.Words.{bad_unit};
 ghost use Rattle.words.specs.Refusals.{refuse, ◌or_else◌};
 ghost use Rattle.words.specs.Outcomes.{Done, given};
 ghost use Rattle.words.specs.Formats.{format};
-ghost use Rattle.round_bit.specs.Arithmetic.{added, sign_changed_if, multiplied};
-ghost use Rattle.filter_bank.specs.Bank.{most_channel, sum_width, cut_depth, products, total, any_differ, unlike, products_unit, words_check, row_check, channel_output_of, output_of};
+ghost use Rattle.round_bit.specs.Arithmetic.{added, magnitude, multiplied};
+ghost use Rattle.filter_bank.specs.Bank.{most_channel, sum_width, cut_depth, products, word_at, total, any_differ, unlike, products_unit, words_check, row_check, channel_output_of, output_of};
 
+use round_bit::RightNumber;
 use words::{Cause, CutAnswer, Format, Outcome, RoundBit, RoundBitWord, Word, refuse_for};
 
 pub const CHANNELS: u32 = 4;
@@ -77,44 +78,41 @@ fn words_check(w: &[RoundBitWord; TAPS]) -> Outcome
     Ok(())
 }
 
-// A round bit, turned over where its word's sign is to change.
-fn turned_if(test: bool, r: u8) -> u8
-    requires { r ≤ 1 }
-    ensures { result ≡ (sign_changed_if test (record { 0 = pos 0; 1 = r })).1 }
+// The round bit of a number's magnitude: turned over where the number is negative.
+fn magnitude_bit(n: RightNumber) -> u8
+    ensures { result ≡ (magnitude n.number).1 }
 {
-    r ^ u8::from(test)
+    n.number.1 ^ u8::from(n.number.0 < 0)
 }
 
-// The round bit of a product, which goes by the signs: of the magnitudes, turned over if exactly one
-// number was negative.
-fn product_bit(t: RoundBit, s: RoundBit) -> u8
-    requires { (t.1 ≤ 1) × (s.1 ≤ 1) }
-    ensures { result ≡ (multiplied t s).1 }
+// The round bit of a product: of the magnitudes, turned over if exactly one number was negative.
+fn product_bit(t: RightNumber, s: RightNumber) -> u8
+    ensures { result ≡ (multiplied t.number s.number).1 }
 {
-    let p = t.0 < 0;
-    let q = s.0 < 0;
-    turned_if(p ^ q, turned_if(p, t.1) & turned_if(q, s.1))
+    let exactly_one = (t.number.0 < 0) ^ (s.number.0 < 0);
+    (magnitude_bit(t) & magnitude_bit(s)) ^ u8::from(exactly_one)
 }
 
-fn worth(a: i64, r: u8) -> i64
-    requires { (mag a < 2 ^ 15) × (r ≤ 1) }
-    ensures { result ≡ a +ℤ pos r }
+// What a number and its round bit are worth.
+fn worth(n: RoundBit) -> i64
+    requires { mag n.0 < 2 ^ 15 }
+    ensures { result ≡ n.0 +ℤ pos n.1 }
 {
-    a + i64::from(r)
+    n.0 + i64::from(n.1)
 }
 
 // A tap times its sample: it is worth what they are worth, multiplied.
-fn tap_product(t: RoundBit, s: RoundBit) -> RoundBit
-    requires { (mag t.0 < 2 ^ 11) × (t.1 ≤ 1) × (mag s.0 < 2 ^ 15) × (s.1 ≤ 1) }
-    ensures { result ≡ multiplied t s }
+fn tap_product(t: RightNumber, s: RightNumber) -> RoundBit
+    requires { (mag t.number.0 < 2 ^ 11) × (mag s.number.0 < 2 ^ 15) }
+    ensures { result ≡ multiplied t.number s.number }
 {
     let bit = product_bit(t, s);
-    RoundBit(worth(t.0, t.1) * worth(s.0, s.1) - i64::from(bit), bit)
+    RoundBit(worth(t.number) * worth(s.number) - i64::from(bit), bit)
 }
 
 // A sum and one more product.
 fn summed(m: RoundBit, n: RoundBit) -> RoundBit
-    requires { (mag m.0 < 2 ^ 29) × (m.1 ≤ 1) × (mag n.0 < 2 ^ 29) × (n.1 ≤ 1) }
+    requires { (mag m.0 < 2 ^ 29) × (mag n.0 < 2 ^ 29) }
     ensures { result ≡ added m n }
 {
     RoundBit(m.0 + n.0 + i64::from(m.1 & n.1), m.1 | n.1)
@@ -142,14 +140,29 @@ impl Row {
         )
     }
 
+    // Tap i times its sample.
+    #[tactic(auto, using(crate::proofs::Summing::tap_small, crate::proofs::Summing::sample_small, crate::proofs::Summing::tap_bit, crate::proofs::Summing::sample_bit))]
+    fn product(&self, i: usize) -> RoundBit
+        requires { (row_check self.now.taps self.now.window ≡ Done) × (i < 8) }
+        ensures { result ≡ multiplied (word_at self.now.taps i).number (word_at self.now.window i).number }
+    {
+        let t = RightNumber {
+            number: self.taps[i].number,
+        };
+        let s = RightNumber {
+            number: self.window[i].number,
+        };
+        tap_product(t, s)
+    }
+
     // The products, added from tap 0 up.
     fn total(&self) -> RoundBit
         requires { row_check self.now.taps self.now.window ≡ Done }
         ensures { result ≡ (total (products self.now.taps self.now.window)).number }
     {
-        let mut sum = tap_product(self.taps[0].number, self.window[0].number);
+        let mut sum = self.product(0);
         for i in 1..TAPS {
-            sum = summed(sum, tap_product(self.taps[i].number, self.window[i].number));
+            sum = summed(sum, self.product(i));
         }
         sum
     }

@@ -1,11 +1,14 @@
 -- What a done answer and a passed check of each operation tell, and the definitions by depth at a depth that is not 0. Assumes nothing.
--- Proved here: `word_done`, `word_outcome`, `cut_passed`, `widen_passed`, `sum_passed`, `product_passed`, `cut_made`, `rest_made`, `cut_bit`,
--- `rest_bit`.
+-- Proved here: `word_done`, `word_outcome`, `cut_passed`, `widen_passed`, `widen_right`, `widen_room`, `sum_right`, `sum_room`, `product_passed`,
+-- `cut_made`, `rest_made`, `cut_bit`, `rest_bit`.
 use Rattle.std.specs.Prelude.{Ok, Err}
-use Prim.Native.Nat.{ℕ, zero, suc, ◌-◌}
+use Prim.Native.Nat.{ℕ, zero, suc, ◌+◌, ◌-◌, ◌^◌, ◌<◌, ◌≤◌}
 use native.Mathlib.Omega.{arith}
+use native.Mathlib.Nat.{lt_of_lt_of_le}
 use mathlib.Core.Path.{◌≡◌, refl}
+use lib.Pow.{pow_mono}
 use lib.IntN.{ℤ}
+use lib.Signed.{mag}
 use mir.Syntax.{w64}
 use mir.Val.{SFits, to_z, of_z}
 use mir.Facts.{to_z-of_z}
@@ -17,8 +20,8 @@ use Rattle.words.specs.Outcomes.{Outcome}
 use Rattle.words.specs.Outcomes.{Done}
 use Rattle.words.specs.declared.Format.{Format}
 use Rattle.words.specs.Kinds.{RoundBitWord}
-use Rattle.words.proofs.Laws.{refused_not_done, both_passed, three_passed}
-use Rattle.words.proofs.Formats.{narrower_none}
+use Rattle.words.proofs.Laws.{refused_not_done, both_passed, three_passed, RightRoundBit, round_bit_right, small}
+use Rattle.words.proofs.Formats.{narrower_none, answer_right}
 use Rattle.words.proofs.Operands.{outcome_kept}
 use Rattle.round_bit.specs.Cuts.{cut_by, cut_check, rest_word, widen_check}
 use Rattle.round_bit.specs.Arithmetic.{sum_check, product_format, product_check}
@@ -37,8 +40,23 @@ cut_passed w d e = both_passed (round_bit_check w) (narrower_check w.format d) e
 pub widen_passed : (w : RoundBitWord) (d : ℕ) → widen_check w d ≡ Done → (round_bit_check w ≡ Done) × (answer_check (wider w.format d) ≡ Done)
 widen_passed w d e = both_passed (round_bit_check w) (answer_check (wider w.format d)) e
 
-pub sum_passed : (x y : RoundBitWord) → sum_check x y ≡ Done → (round_bit_check x ≡ Done) × (round_bit_check y ≡ Done)
-sum_passed x y e = let p = three_passed (round_bit_check x) (round_bit_check y) _ e in (p.0, p.1)
+pub widen_right : (w : RoundBitWord) (d : ℕ) → widen_check w d ≡ Done → RightRoundBit w
+widen_right w d e = round_bit_right w (widen_passed w d e).0
+
+pub widen_room : (w : RoundBitWord) (d : ℕ) → widen_check w d ≡ Done → (d ≤ 61) × (mag w.number.0 < 2 ^ (62 - d))
+widen_room w d e =
+    let p = widen_passed w d e in
+    let g = round_bit_right w p.0 in
+    let n : 2 ≤ w.format.width + d = omega (arith, g.format.narrow) in
+    let f = answer_right (wider w.format d) n p.1 in
+    (omega (arith, f.wide, g.format.narrow), lt_of_lt_of_le g.size (pow_mono {i = w.format.width - 1} {j = 62 - d} (omega (arith, f.wide))))
+
+pub sum_right : (x y : RoundBitWord) → sum_check x y ≡ Done → RightRoundBit x × RightRoundBit y
+sum_right x y e = let p = three_passed (round_bit_check x) (round_bit_check y) _ e in (round_bit_right x p.0, round_bit_right y p.1)
+
+-- their numbers are far inside an i64
+pub sum_room : (x y : RoundBitWord) → sum_check x y ≡ Done → (mag x.number.0 < 2 ^ 62) × (mag y.number.0 < 2 ^ 62)
+sum_room x y e = let p = sum_right x y e in (small p.0, small p.1)
 
 pub product_passed : (x y : RoundBitWord) → product_check x y ≡ Done →
     (round_bit_check x ≡ Done) × (round_bit_check y ≡ Done) × (answer_check (product_format x.format y.format) ≡ Done)

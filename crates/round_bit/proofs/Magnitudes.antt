@@ -46,7 +46,7 @@ magnitude_right n h =
 
 -- two sizes of n and m digits, n + m - 1 ≤ 63: their product is far inside an i64
 pub product_room : (x y : RoundBitWord) → product_check x y ≡ Done →
-    (x.number.1 ≤ 1) × (y.number.1 ≤ 1) × ((mag x.number.0 + 1) * (mag y.number.0 + 1) ≤ 2 ^ 62)
+    (mag x.number.0 + 1) * (mag y.number.0 + 1) ≤ 2 ^ 62
 product_room x y e =
     let p = product_passed x y e in
     let f = round_bit_right x p.0 in
@@ -58,4 +58,4 @@ product_room x y e =
     let a : mag x.number.0 + 1 ≤ 2 ^ i = omega (arith, f.size) in
     let b : mag y.number.0 + 1 ≤ 2 ^ j = omega (arith, g.size) in
     let s : (mag x.number.0 + 1) * (mag y.number.0 + 1) ≤ 2 ^ (i + j) = rw (pow-add 2 i j) (mul-le-mul a b) in
-    (f.bit, g.bit, le_trans s (pow_mono {i = i + j} {j = 62} (omega (arith, w, f.format.narrow, g.format.narrow))))
+    le_trans s (pow_mono {i = i + j} {j = 62} (omega (arith, w, f.format.narrow, g.format.narrow)))

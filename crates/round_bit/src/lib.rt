@@ -19,7 +19,7 @@ ghost use Rattle.words.specs.Formats.{answer_check};
 ghost use Rattle.words.specs.RoundBit.{round_bit_check};
 ghost use Rattle.words.specs.Plain.{plain_check};
 ghost use Rattle.round_bit.specs.Cuts.{sign_changed, sign_change_word, sign_change_of, cut_check, cut_word, cut_of, rest_word, rest_of, cut_and_rest_of, even_round_bit, even_cut_word, even_cut_of, widen_check, widen_word, widen_of};
-ghost use Rattle.round_bit.specs.Arithmetic.{sum_check, sum_word, sum_of, difference_of, magnitude_product, sign_changed_if, multiplied, product_format, product_check, product_word, product_of, to_plain_word, to_plain_of, from_plain_word, from_plain_of};
+ghost use Rattle.round_bit.specs.Arithmetic.{added, sum_check, sum_word, sum_of, difference_of, magnitude_product, sign_changed_if, magnitude, multiplied, product_format, product_check, product_word, product_of, to_plain_word, to_plain_of, from_plain_word, from_plain_of};
 
 use words::{
     Cause, CutAnswer, Format, Plain, PlainAnswer, PlainWord, RoundBit, RoundBitAnswer,
@@ -33,38 +33,57 @@ pub struct CutAndRest {
     pub rest: RoundBitWord,
 }
 
-// Sign change: (-1-a, 1-r).
-fn sign_changed(n: RoundBit) -> RoundBit
-    requires { n.1 ≤ 1 }
-    ensures { result ≡ sign_changed n }
-{
-    RoundBit(!n.0, 1 - n.1)
+// A number whose round bit is 0 or 1, as that of every word that passed its check.
+#[derive(Clone, Copy)]
+pub struct RightNumber {
+    pub number: RoundBit,
+    pub ghost bit: { number.1 ≤ 1 },
 }
 
-fn sign_change_word(w: RoundBitWord) -> RoundBitWord
-    requires { round_bit_check w ≡ Done }
-    ensures { result ≡ sign_change_word w }
-{
-    Word {
-        number: sign_changed(w.number),
-        ..w
+impl RightNumber {
+    // Sign change: (-1-a, 1-r).
+    fn sign_changed(self) -> RightNumber
+        ensures { result.number ≡ sign_changed self.number }
+    {
+        let RoundBit(a, r) = self.number;
+        RightNumber {
+            number: RoundBit(!a, 1 - r),
+        }
+    }
+
+    fn sign_changed_if(self, test: bool) -> RightNumber
+        ensures { result.number ≡ sign_changed_if test self.number }
+    {
+        if test { self.sign_changed() } else { self }
+    }
+
+    fn magnitude(self) -> RightNumber
+        ensures { result.number ≡ magnitude self.number }
+    {
+        self.sign_changed_if(self.number.0 < 0)
     }
 }
 
-fn turned(w: RoundBitWord) -> Result<RoundBitWord, Cause>
+#[tactic(auto, unfolding(crate::specs::Cuts::sign_change_word), using(words::proofs::Laws::Rights::right))]
+fn sign_change_word(w: RoundBitWord) -> Result<RoundBitWord, Cause>
     ensures { result ≡ given (round_bit_check w) (sign_change_word w) }
 {
     w.check()?;
-    Ok(sign_change_word(w))
+    let n = RightNumber { number: w.number };
+    Ok(Word {
+        number: n.sign_changed().number,
+        format: w.format,
+    })
 }
 
 pub fn sign_change(w: RoundBitWord) -> RoundBitAnswer
     ensures { result ≡ sign_change_of w }
 {
-    turned(w).into()
+    sign_change_word(w).into()
 }
 
 // Cut by d: the floor, and the highest digit that goes as the round bit.
+#[tactic(auto, unfolding(crate::specs::Cuts::cut_by), using(crate::proofs::Checks::cut_bit))]
 fn cut_round_bit(w: RoundBitWord, d: u64) -> u8
     ensures { result ≡ (cut_word w d).number.1 }
 {
@@ -75,6 +94,7 @@ fn cut_round_bit(w: RoundBitWord, d: u64) -> u8
     }
 }
 
+#[tactic(auto, using(words::proofs::Given::ok_given, crate::proofs::Checks::cut_made))]
 fn cut_word(w: RoundBitWord, d: u64) -> Result<RoundBitWord, Cause>
     ensures { result ≡ given (cut_check w d) (cut_word w d) }
 {
@@ -94,12 +114,14 @@ pub fn cut(w: RoundBitWord, d: u64) -> CutAnswer<RoundBit>
 }
 
 // Rest of a cut: the low digits, and the old round bit, which the cut dropped.
+#[tactic(auto, unfolding(crate::specs::Cuts::rest_word), using(crate::proofs::Checks::rest_bit))]
 fn rest_round_bit(w: RoundBitWord, d: u64) -> u8
     ensures { result ≡ (rest_word w d).number.1 }
 {
     if d == 0 { 0 } else { w.number.1 }
 }
 
+#[tactic(auto, using(crate::proofs::Checks::rest_made))]
 fn rest_word(w: RoundBitWord, d: u64) -> RoundBitWord
     ensures { result ≡ rest_word w d }
 {
@@ -145,27 +167,19 @@ fn middle(q: i64, k: u64) -> i64
     (q << (k + 1)) + (1 << k)
 }
 
-// The rule stands here alone: up from the floor q past the middle, and in the middle where q is odd.
-fn even_round_bit(a: i64, round: u8, q: i64, k: u64) -> u8
-    requires { (k ≤ 60) × (mag a < 2 ^ 62) × (round ≤ 1) × (q ≡ floor_by a (k + 1)) }
-    ensures { result ≡ even_round_bit round a k }
-{
-    let value = a + round as i64;
-    let odd = q & 1;
-    let even = 1 - odd;
-    let least = middle(q, k) + even;
-    let up = least <= value;
-    u8::from(up)
-}
-
-fn even_cut_round_bit(w: RoundBitWord, q: i64, d: u64) -> u8
-    requires { (cut_check w d ≡ Done) × (q ≡ floor_by w.number.0 d) }
-    ensures { result ≡ (even_cut_word w d).number.1 }
-{
-    if d == 0 {
-        w.number.1
-    } else {
-        even_round_bit(w.number.0, w.number.1, q, d - 1)
+impl RightNumber {
+    // The rule stands here alone: up from the floor q past the middle, and in the middle where q is odd.
+    fn even_round_bit(self, q: i64, k: u64) -> u8
+        requires { (k ≤ 60) × (mag self.number.0 < 2 ^ 62) × (q ≡ floor_by self.number.0 (k + 1)) }
+        ensures { result ≡ even_round_bit self.number.1 self.number.0 k }
+    {
+        let RoundBit(a, round) = self.number;
+        let value = a + round as i64;
+        let odd = q & 1;
+        let even = 1 - odd;
+        let least = middle(q, k) + even;
+        let up = least <= value;
+        u8::from(up)
     }
 }
 
@@ -173,10 +187,15 @@ fn even_cut_word(w: RoundBitWord, d: u64) -> Result<RoundBitWord, Cause>
     ensures { result ≡ given (cut_check w d) (even_cut_word w d) }
 {
     let format = w.cut_format(d)?;
-    let number = integers::floor_by(w.number.0, d);
-    let even = even_cut_round_bit(w, number, d);
+    let q = integers::floor_by(w.number.0, d);
+    let n = RightNumber { number: w.number };
+    let even = if d == 0 {
+        w.number.1
+    } else {
+        n.even_round_bit(q, d - 1)
+    };
     Ok(Word {
-        number: RoundBit(number, even),
+        number: RoundBit(q, even),
         format,
     })
 }
@@ -189,21 +208,26 @@ pub fn even_cut(w: RoundBitWord, d: u64) -> CutAnswer<RoundBit>
 
 // Widen on the right by d: zero digits are appended in the signed-digit reading.
 
-// a * 2^d + r * (2^d - 1), which is (a + r) * 2^d - r.
-fn widened(n: RoundBit, d: u64) -> i64
-    requires { (d ≤ 61) × (mag n.0 < 2 ^ (62 - d)) × (n.1 ≤ 1) }
-    ensures { result ≡ (n.0 *ℤ pos (2 ^ d)) +ℤ pos (n.1 * (2 ^ d - 1)) }
-{
-    let r = n.1 as i64;
-    ((n.0 + r) << d) - r
+impl RightNumber {
+    // a * 2^d + r * (2^d - 1), which is (a + r) * 2^d - r.
+    fn widened(self, d: u64) -> i64
+        requires { (d ≤ 61) × (mag self.number.0 < 2 ^ (62 - d)) }
+        ensures { result ≡ (self.number.0 *ℤ pos (2 ^ d)) +ℤ pos (self.number.1 * (2 ^ d - 1)) }
+    {
+        let a = self.number.0;
+        let r = self.number.1 as i64;
+        ((a + r) << d) - r
+    }
 }
 
+#[tactic(auto, unfolding(crate::specs::Cuts::widen_word), using(words::proofs::Given::ok_given, crate::proofs::Checks::widen_right, crate::proofs::Checks::widen_room))]
 fn widen_word(w: RoundBitWord, d: u64) -> Result<RoundBitWord, Cause>
     ensures { result ≡ given (widen_check w d) (widen_word w d) }
 {
     let format = w.widened_format(d)?;
+    let n = RightNumber { number: w.number };
     Ok(Word {
-        number: RoundBit(widened(w.number, d), w.number.1),
+        number: RoundBit(n.widened(d), w.number.1),
         format,
     })
 }
@@ -214,47 +238,60 @@ pub fn widen(w: RoundBitWord, d: u64) -> RoundBitAnswer
     widen_word(w, d).into()
 }
 
-// Sum: (a + b + (ra and rb), ra or rb). 8 tests the number, not the value.
-fn sum_word(x: RoundBitWord, y: RoundBitWord) -> RoundBitWord
-    requires { sum_check x y ≡ Done }
-    ensures { result ≡ sum_word x y }
-{
-    Word {
-        number: RoundBit(
-            x.number.0 + y.number.0 + (x.number.1 & y.number.1) as i64,
-            x.number.1 | y.number.1,
-        ),
-        ..x
+impl RightNumber {
+    // Sum: (a + b + (ra and rb), ra or rb).
+    fn added(self, other: RightNumber) -> RoundBit
+        requires { (mag self.number.0 < 2 ^ 62) × (mag other.number.0 < 2 ^ 62) }
+        ensures { result ≡ added self.number other.number }
+    {
+        let RoundBit(a, ra) = self.number;
+        let RoundBit(b, rb) = other.number;
+        RoundBit(a + b + (ra & rb) as i64, ra | rb)
     }
 }
 
-fn added(x: RoundBitWord, y: RoundBitWord) -> Result<RoundBitWord, Cause>
+// 8 tests the number of the sum, not its value.
+#[tactic(auto, unfolding(crate::specs::Arithmetic::sum_word), using(crate::proofs::Checks::sum_right, crate::proofs::Checks::sum_room))]
+fn sum_word(x: RoundBitWord, y: RoundBitWord) -> Result<RoundBitWord, Cause>
     ensures { let z = sum_word x y in result ≡ (sum_check x y then given (refuse 8 (outside z.format z.number.0)) z) }
 {
     x.sum_check(y)?;
-    sum_word(x, y).fitted()
+    let m = RightNumber { number: x.number };
+    let n = RightNumber { number: y.number };
+    let sum = Word {
+        number: m.added(n),
+        format: x.format,
+    };
+    sum.fitted()
 }
 
 #[tactic(auto, using(words::proofs::Given::answer_fitted), unfolding(words::specs::RoundBit::round_bit_fitted))]
 pub fn sum(x: RoundBitWord, y: RoundBitWord) -> RoundBitAnswer
     ensures { result ≡ sum_of x y }
 {
-    added(x, y).into()
+    sum_word(x, y).into()
 }
 
 // Difference: the sum with the second operand's sign changed.
-fn taken_off(x: RoundBitWord, y: RoundBitWord) -> Result<RoundBitWord, Cause>
+#[tactic(auto, unfolding(crate::specs::Arithmetic::sum_word, crate::specs::Cuts::sign_change_word), using(crate::proofs::Checks::sum_right, crate::proofs::Checks::sum_room, integers::proofs::Floor::turned_size))]
+fn difference_word(x: RoundBitWord, y: RoundBitWord) -> Result<RoundBitWord, Cause>
     ensures { let z = sum_word x (sign_change_word y) in result ≡ (sum_check x y then given (refuse 8 (outside z.format z.number.0)) z) }
 {
     x.sum_check(y)?;
-    sum_word(x, sign_change_word(y)).fitted()
+    let m = RightNumber { number: x.number };
+    let n = RightNumber { number: y.number };
+    let difference = Word {
+        number: m.added(n.sign_changed()),
+        format: x.format,
+    };
+    difference.fitted()
 }
 
 #[tactic(auto, using(words::proofs::Given::answer_fitted), unfolding(words::specs::RoundBit::round_bit_fitted))]
 pub fn difference(x: RoundBitWord, y: RoundBitWord) -> RoundBitAnswer
     ensures { result ≡ difference_of x y }
 {
-    taken_off(x, y).into()
+    difference_word(x, y).into()
 }
 
 // Product of numbers that are not negative: (ab + a rb + b ra, ra rb).
@@ -265,32 +302,29 @@ fn cross_product(a: u64, ra: u64, b: u64, rb: u64) -> u64
     a * b + a * rb + b * ra
 }
 
-fn magnitude_product(m: RoundBit, n: RoundBit) -> RoundBit
-    requires { (m.1 ≤ 1) × (n.1 ≤ 1) × (pos 0 ≤ℤ m.0) × (pos 0 ≤ℤ n.0) × ((mag m.0 + 1) * (mag n.0 + 1) ≤ 2 ^ 62) }
-    ensures { result ≡ magnitude_product m n }
-{
-    let p = cross_product(m.0 as u64, m.1 as u64, n.0 as u64, n.1 as u64);
-    RoundBit(p as i64, m.1 & n.1)
-}
+impl RightNumber {
+    fn magnitude_product(self, other: RightNumber) -> RightNumber
+        requires { (pos 0 ≤ℤ self.number.0) × (pos 0 ≤ℤ other.number.0) × ((mag self.number.0 + 1) * (mag other.number.0 + 1) ≤ 2 ^ 62) }
+        ensures { result.number ≡ magnitude_product self.number other.number }
+    {
+        let RoundBit(a, ra) = self.number;
+        let RoundBit(b, rb) = other.number;
+        let p = cross_product(a as u64, ra as u64, b as u64, rb as u64);
+        RightNumber {
+            number: RoundBit(p as i64, ra & rb),
+        }
+    }
 
-fn sign_changed_if(test: bool, n: RoundBit) -> RoundBit
-    requires { n.1 ≤ 1 }
-    ensures { result ≡ sign_changed_if test n }
-{
-    if test { sign_changed(n) } else { n }
-}
-
-// Product: of the magnitudes, sign-changed if exactly one number was negative.
-fn multiplied(m: RoundBit, n: RoundBit) -> RoundBit
-    requires { (m.1 ≤ 1) × (n.1 ≤ 1) × ((mag m.0 + 1) * (mag n.0 + 1) ≤ 2 ^ 62) }
-    ensures { result ≡ multiplied m n }
-{
-    let p = m.0 < 0;
-    let q = n.0 < 0;
-    let a = sign_changed_if(p, m);
-    let b = sign_changed_if(q, n);
-    let z = magnitude_product(a, b);
-    sign_changed_if(p ^ q, z)
+    // Product: of the magnitudes, sign-changed if exactly one number was negative.
+    #[tactic(auto, unfolding(crate::specs::Arithmetic::multiplied), using(integers::proofs::ExactlyOne::exactly_one_lem, crate::proofs::Magnitudes::magnitude_right))]
+    fn multiplied(self, other: RightNumber) -> RightNumber
+        requires { (mag self.number.0 + 1) * (mag other.number.0 + 1) ≤ 2 ^ 62 }
+        ensures { result.number ≡ multiplied self.number other.number }
+    {
+        let exactly_one = (self.number.0 < 0) ^ (other.number.0 < 0);
+        let z = self.magnitude().magnitude_product(other.magnitude());
+        z.sign_changed_if(exactly_one)
+    }
 }
 
 fn formats_multiplied(f: Format, g: Format) -> Result<Format, Cause>
@@ -303,14 +337,17 @@ fn formats_multiplied(f: Format, g: Format) -> Result<Format, Cause>
     )
 }
 
+#[tactic(auto, unfolding(crate::specs::Arithmetic::product_word), using(words::proofs::Given::ok_given, words::proofs::Laws::Rights::right, crate::proofs::Magnitudes::product_room))]
 fn product_word(x: RoundBitWord, y: RoundBitWord) -> Result<RoundBitWord, Cause>
     ensures { result ≡ given (product_check x y) (product_word x y) }
 {
     x.check()?;
     y.check()?;
     let format = formats_multiplied(x.format, y.format)?;
+    let m = RightNumber { number: x.number };
+    let n = RightNumber { number: y.number };
     Ok(Word {
-        number: multiplied(x.number, y.number),
+        number: m.multiplied(n).number,
         format,
     })
 }

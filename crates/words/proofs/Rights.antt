@@ -1,14 +1,14 @@
--- What is right: 0, and what stays right: a sign change, a floor, the low digits, a widening and a doubling of a right number, and its lowest digit cleared.
+-- What is right: 0, and what stays right: a floor, the low digits, a widening and a doubling of a right number, and its lowest digit cleared.
 -- Assumes nothing.
--- Proved here: `nothing_right`, `turned_right`, `floor_right`, `low_right`, `widened_right`, `cleared_right`, `doubled_right`.
+-- Proved here: `nothing_right`, `floor_right`, `low_right`, `widened_right`, `cleared_right`, `doubled_right`.
 use Prim.Native.Nat.{ℕ, suc, ◌+◌, ◌-◌, ◌*◌, ◌^◌, ◌≤◌}
 use native.Mathlib.Omega.{arith}
 use native.Mathlib.Nat.{lt_of_lt_of_le}
 use mathlib.Core.Path.{◌≡◌}
 use lib.Pow.{pow_mono, pow_pos}
 use lib.IntN.{ℤ, pos, ◌+ℤ◌, ◌*ℤ◌}
-use Rattle.integers.specs.Numbers.{turned, floor_by, cleared, low_digits}
-use Rattle.integers.proofs.Floor.{turned_size, floor_range}
+use Rattle.integers.specs.Numbers.{floor_by, cleared, low_digits}
+use Rattle.integers.proofs.Floor.{floor_range}
 use Rattle.integers.proofs.LowDigits.{low_range}
 use Rattle.integers.proofs.Width.{widen_size}
 use Rattle.integers.proofs.Halves.{cleared_size, doubled_size}
@@ -22,10 +22,7 @@ use Rattle.words.proofs.Formats.{digits_left, narrower_right}
 pub nothing_right : {f : Format} → RightFormat f → Right f (pos 0) 0
 nothing_right {f} g = record { format = g; size = pow_pos (f.width - 1); bit = omega arith }
 
--- ---- -1 - x, a floor and the low digits of a right number are right with any round bit, and so is the number widened with its own
-pub turned_right : {f : Format} {x : ℤ} {r : ℕ} (s : ℕ) → Right f x r → s ≤ 1 → Right f (turned x) s
-turned_right {x = x} s g h = record { format = g.format; size = rw (turned_size x) g.size; bit = h }
-
+-- ---- a floor and the low digits of a right number are right with any round bit, and so is the number widened with its own
 pub floor_right : {f : Format} {x : ℤ} {r : ℕ} (d s : ℕ) → Right f x r → narrower_check f d ≡ Done → s ≤ 1 → Right (narrower f d) (floor_by x d) s
 floor_right {f} {x} d s g e h =
     let same : f.width - d - 1 + d ≡ f.width - 1 = omega (arith, digits_left f d e) in

@@ -11,6 +11,7 @@ use lib.Signed.{mag, le_z}
 use mir.Syntax.{w64}
 use mir.Val.{SFits, to_z, of_z, bool_byte}
 use mir.Facts.{to_z-of_z, to_z_pos}
+use borrow.Author.Rules.{rules}
 use Rattle.integers.specs.Numbers.{floor_by, lowest, digit}
 use Rattle.integers.proofs.Kit.{ints, size_range, abs_range, by_abs, plus_law, minus_law}
 use Rattle.integers.proofs.Floor.{floor_range}
@@ -20,8 +21,7 @@ use Rattle.integers.proofs.Even.{middle, goes_up, above_law, goes_up_value}
 use Rattle.integers.proofs.Machine.{lowest_machine}
 use Rattle.round_bit.specs.Cuts.{even_round_bit}
 use Rattle.round_bit.proofs.Laws.EvenCuts.{even_round_bit_lem}
-use Rattle.round_bit.proofs.even_round_bit.Goals as goal
-use Rattle.round_bit.proofs.even_round_bit.Goals.{Start}
+use Rattle.round_bit.proofs.RightNumber.even_round_bit.Goals as goal
 
 from-floor : {q : ℤ} (a : ℤ) (k : ℕ) → q ≡ floor_by a (suc k) → (q *ℤ pos (2 ^ (k + 1))) +ℤ pos (2 ^ k) ≡ middle a k
 from-floor a k e = rw (e, add-one)
@@ -41,12 +41,12 @@ bits_small x y h l = by_abs 1 (pos x -ℤ pos y) (omega (arith, minus_law (pos x
 small-fits : (x : ℤ) → nat_abs x ≤ 1 → SFits w64 x
 small-fits x h = omega (ints, abs_range 1 x h)
 
-module _ (s : Start) where
+module _ (s : goal.After-struct_told-1) where
   abbrev a : ℤ
-  a = s.args.a
+  a = s.args.self.number.0
 
   abbrev r : ℕ
-  r = s.args.round
+  r = s.args.self.number.1
 
   abbrev k : ℕ
   k = s.args.k
@@ -54,14 +54,17 @@ module _ (s : Start) where
   abbrev even : ℤ
   even = pos 1 -ℤ pos (digit a (suc k))
 
+  number : SFits w64 a
+  number = search rules
+
   floor : s.args.q ≡ floor_by a (suc k)
-  floor = s.requires.3 ∙ ap (floor_by a) (add-one k)
+  floor = s.requires.2 ∙ ap (floor_by a) (add-one k)
 
   bit : to_z w64 r ≡ pos r
-  bit = to_z_pos w64 (omega (arith, s.requires.2))
+  bit = to_z_pos w64 (omega (arith, s.args.self.bit))
 
   value_fits : SFits w64 (a +ℤ pos r)
-  value_fits = omega (ints, size_range (2 ^ 62) a s.requires.1, plus_law a (pos r), s.requires.2)
+  value_fits = omega (ints, size_range (2 ^ 62) a s.requires.1, plus_law a (pos r), s.args.self.bit)
 
   odd : to_z w64 (bit_and (of_z w64 s.args.q) 1) ≡ pos (digit a (suc k))
   unfolding digit
@@ -78,7 +81,7 @@ module _ (s : Start) where
         ints,
         half,
         size_range (2 ^ 62) a s.requires.1,
-        s.requires.2,
+        s.args.self.bit,
         plus_law a (pos r),
         above_law r a k,
         below_range a (suc k),
@@ -95,7 +98,7 @@ module _ (c : goal.After-middle) where
   there = c.middle.ensures ∙ rw (to_z-of_z c.ranges.q) (from-floor (a c.before) (k c.before) (floor c.before))
 
 pub overflow_add-value : goal.overflow_add-value
-overflow_add-value c = rw (to_z-of_z c.ranges.a, bit c) (value_fits c)
+overflow_add-value c = rw (to_z-of_z (number c), bit c) (value_fits c)
 
 pub overflow_sub-even : goal.overflow_sub-even
 overflow_sub-even c = rw (odd c) (search (small-fits, bits_small, digit_le (a c) (suc (k c)), one))
@@ -111,7 +114,7 @@ overflow_add-least c =
 -- what the code tests is that the value goes up
 tested : (c : goal.After-middle) →
     le_z (to_z w64 (of_z w64 (to_z w64 (of_z w64 c.middle.result) +ℤ to_z w64 (of_z w64 (pos 1 -ℤ to_z w64 (bit_and (of_z w64 c.args.q) 1))))))
-    (to_z w64 (of_z w64 (to_z w64 (of_z w64 c.args.a) +ℤ to_z w64 c.args.round))) ≡ goes_up (r c.before) (a c.before) (k c.before)
+    (to_z w64 (of_z w64 (to_z w64 (of_z w64 c.args.self.number.0) +ℤ to_z w64 c.args.self.number.1))) ≡ goes_up (r c.before) (a c.before) (k c.before)
 tested c =
     let s = c.before in
     rw (
@@ -120,13 +123,13 @@ tested c =
       odd s,
       to_z-of_z (even-fits s),
       to_z-of_z (up_fits s (even s) (bits_small 1 (digit (a s) (suc (k s))) one (digit_le (a s) (suc (k s))))),
-      to_z-of_z s.ranges.a,
+      to_z-of_z (number s),
       bit s,
       to_z-of_z (value_fits s),
     ) (goes_up_value (r s) (a s) (k s))
 
-by-test : (s : Start) (t : Bool) → t ≡ goes_up (r s) (a s) (k s) → bool_byte t ≡ even_round_bit (r s) (a s) (k s)
-by-test s t e = rw e (as_bit (goes_up (r s) (a s) (k s)) ∙ sym (even_round_bit_lem (r s) (a s) (k s) s.requires.2))
+by-test : (s : goal.After-struct_told-1) (t : Bool) → t ≡ goes_up (r s) (a s) (k s) → bool_byte t ≡ even_round_bit (r s) (a s) (k s)
+by-test s t e = rw e (as_bit (goes_up (r s) (a s) (k s)) ∙ sym (even_round_bit_lem (r s) (a s) (k s) s.args.self.bit))
   where
     as_bit : (v : Bool) → bool_byte v ≡ cond v 1 0
     as_bit true = refl

@@ -8,22 +8,22 @@ use mir.Facts.{to_z-of_z, to_z_pos}
 use Rattle.integers.proofs.Width.{widen_is, widen_machine}
 use Rattle.integers.proofs.Machine.{times_machine}
 use borrow.Author.Rules.{rules}
-use Rattle.round_bit.proofs.widened.Goals as goal
+use Rattle.round_bit.proofs.RightNumber.widened.Goals as goal
 
-module _ (c : goal.After-struct_told-1) where
-  number : SFits w64 c.args.n.0
+module _ (c : goal.After-struct_known-1) where
+  number : SFits w64 c.args.self.number.0
   number = search rules
 
-  bit : to_z w64 c.args.n.1 ≡ pos c.args.n.1
-  bit = to_z_pos w64 (omega (arith, c.requires.2))
+  bit : to_z w64 c.args.self.number.1 ≡ pos c.args.self.number.1
+  bit = to_z_pos w64 (omega (arith, c.args.self.bit))
 
-  steps : SFits w64 (c.args.n.0 +ℤ pos c.args.n.1)
-      × SFits w64 ((c.args.n.0 +ℤ pos c.args.n.1) *ℤ pos (2 ^ c.args.d))
-      × SFits w64 (((c.args.n.0 +ℤ pos c.args.n.1) *ℤ pos (2 ^ c.args.d)) -ℤ
-      pos c.args.n.1)
+  steps : SFits w64 (c.args.self.number.0 +ℤ pos c.args.self.number.1)
+      × SFits w64 ((c.args.self.number.0 +ℤ pos c.args.self.number.1) *ℤ pos (2 ^ c.args.d))
+      × SFits w64 (((c.args.self.number.0 +ℤ pos c.args.self.number.1) *ℤ pos (2 ^ c.args.d)) -ℤ
+      pos c.args.self.number.1)
   steps =
-      let p = c.requires in widen_machine c.args.n.0 c.args.n.1
-      c.args.d p.0 p.1 p.2
+      let p = c.requires in widen_machine c.args.self.number.0 c.args.self.number.1
+      c.args.d p.0 p.1 c.args.self.bit
 
 pub overflow_add-result : goal.overflow_add-result
 overflow_add-result c = rw (to_z-of_z (number c), bit c) (steps c).0
@@ -34,4 +34,4 @@ overflow_sub-result c = rw (to_z-of_z (number c), bit c, times_machine c.args.d 
 pub returns : goal.returns
 returns c =
     rw (to_z-of_z (number c), bit c, times_machine c.args.d (steps c).0 (steps c).1)
-    (to_z-of_z (steps c).2 ∙ widen_is c.args.n.0 c.args.n.1 c.args.d)
+    (to_z-of_z (steps c).2 ∙ widen_is c.args.self.number.0 c.args.self.number.1 c.args.d)
