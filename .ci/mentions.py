@@ -89,7 +89,7 @@ class File:
 
 
 def of_edit(path):
-    """The lines that it changes, those that it puts in their place, and the functions that they stand in."""
+    """The lines that it changes, those that it puts in their place, and the functions or constants that they stand in."""
     found = set()
     for key, text in re.findall(r"^(file|old|new): (.*)", path.read_text(), re.M):
         if key == "file":
@@ -97,9 +97,9 @@ def of_edit(path):
             continue
         if key == "old":
             before, _, after = source.partition(text)
-            *_, function = [None, *re.finditer(r"\bfn (\w+)", before)]
-            if function and before.count("{", function.start()) > before.count("}", function.start()):
-                found.add(function[1])
+            *_, place = [None, *re.finditer(r"\b(?:fn|const) (\w+)", before)]
+            if place and before.count("{", place.start()) > before.count("}", place.start()):
+                found.add(place[1])
             text = before.rpartition("\n")[2] + text + after.partition("\n")[0]
         found |= set(re.findall(r"\w+", text))
     return {(None, plain(name)) for name in found}
