@@ -23,9 +23,6 @@ module _ (c : goal.Start) where
   all : SFits w64 (((pos 2 *ℤ (c.args.x *ℤ c.args.y)) +ℤ c.args.x) +ℤ c.args.y)
   all = let m = half_product_mag c.args.x c.args.y in record { sfits = omega (arith, m, c.requires) }
 
-pub overflow_add-result-2 : goal.overflow_add-result-2
-overflow_add-result-2 c = rw (to_z-of_z c.ranges.x, to_z-of_z c.ranges.y, to_z-of_z (product c), to_z-of_z (twice c), to_z-of_z (more c)) (all c)
-
 pub returns : goal.returns
 unfolding multiplied
 returns c =

@@ -14,9 +14,5 @@ masked : (c : goal.After-floor_by) → to_z w64 (bit_and (of_z w64 c.floor_by.re
 unfolding digit
 masked c = lowest_machine c.floor_by.result (record { sfits = c.floor_by.type_inv }) ∙ rw (c.floor_by.ensures, to_z-of_z c.ranges.x)
 
-pub overflow_cast-result : goal.overflow_cast-result
-overflow_cast-result c =
-    by_cast (digit c.args.x c.args.i) (masked c) (omega (arith, digit_le c.args.x c.args.i))
-
 pub returns : goal.returns
 returns c = ap nat_abs (masked c)

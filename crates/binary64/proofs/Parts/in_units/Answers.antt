@@ -29,12 +29,6 @@ module _ (bits : ℕ) (unit : ℤ) (x : Scaled) (d : ℕ) where
       parts_of (quotient x.negative (x.significand * 2 ^ (x.places - d)) 1) ≡ parts_of (in_units (sample bits) unit)
   left h told l = parts_left bits unit x.negative x.significand x.places d h told l
 
-pub raised-requires : goal.raised-requires
-raised-requires c =
-    let told = rw (to_z-of_z c.ranges.unit) at c.depth-d.ensures in
-    let above = deep c.args.bits c.args.unit c.decoded-x.result c.depth-d.result told c.requires.1 in
-    c.decoded-x.result.led (omega (arith, above, c.if-x-d.false))
-
 pub returns-then-x-d : goal.returns-then-x-d
 returns-then-x-d c =
     let told = rw (to_z-of_z c.ranges.unit) at c.depth-d.ensures in

@@ -6,12 +6,6 @@ use Rattle.words.proofs.Given.{ok_given, err_given, given_is}
 use Rattle.filter_bank.proofs.Summing.{total_format}
 use Rattle.filter_bank.proofs.Row.sum_word.Goals as goal
 
-pub returns-in_err-format : goal.returns-in_err-format
-returns-in_err-format c = rw (err_given _ _ _ c.in_err-format.ensures) (search rules)
-
-pub total-requires : goal.total-requires
-total-requires c = (both_passed _ _ (ok_given _ _ _ c.in_ok-format.ensures).0).0
-
 pub returns : goal.returns
 returns c =
     let p = ok_given _ _ _ c.in_ok-format.ensures in

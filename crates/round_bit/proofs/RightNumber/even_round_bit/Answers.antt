@@ -97,12 +97,6 @@ module _ (c : goal.After-middle) where
   there : c.middle.result ≡ middle (a c.before) (k c.before)
   there = c.middle.ensures ∙ rw (to_z-of_z c.ranges.q) (from-floor (a c.before) (k c.before) (floor c.before))
 
-pub overflow_add-value : goal.overflow_add-value
-overflow_add-value c = rw (to_z-of_z (number c), bit c) (value_fits c)
-
-pub overflow_sub-even : goal.overflow_sub-even
-overflow_sub-even c = rw (odd c) (search (small-fits, bits_small, digit_le (a c) (suc (k c)), one))
-
 pub middle-requires : goal.middle-requires
 middle-requires c = (c.requires.0, rw (to_z-of_z c.ranges.q) (floor-small (a c) (k c) c.requires.0 c.requires.1 (floor c)))
 
