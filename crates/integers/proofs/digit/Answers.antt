@@ -4,10 +4,8 @@ use lib.IntN.{pos, nat_abs}
 use mir.Syntax.{w64}
 use mir.Val.{to_z, of_z}
 use mir.Facts.{to_z-of_z}
-use native.Mathlib.Omega.{arith}
 use Rattle.integers.specs.Numbers.{digit}
-use Rattle.integers.proofs.Digits.{digit_le}
-use Rattle.integers.proofs.Machine.{lowest_machine, by_cast}
+use Rattle.integers.proofs.Machine.{lowest_machine}
 use Rattle.integers.proofs.digit.Goals as goal
 
 masked : (c : goal.After-floor_by) → to_z w64 (bit_and (of_z w64 c.floor_by.result) 1) ≡ pos (digit c.args.x c.args.i)

@@ -1,8 +1,6 @@
 use mathlib.Core.Path.{ap}
 use lib.IntN.{nat_abs}
-use Rattle.integers.specs.Numbers.{digits_below}
-use Rattle.integers.proofs.LowDigits.{below_range}
-use Rattle.integers.proofs.Machine.{by_cast, byte_machine}
+use Rattle.integers.proofs.Machine.{byte_machine}
 use Rattle.integers.proofs.low_byte.Goals as goal
 
 pub returns : goal.returns

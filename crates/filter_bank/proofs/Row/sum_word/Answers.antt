@@ -1,8 +1,6 @@
 use native.Mathlib.Omega.{arith}
 use mathlib.Core.Path.{sym, ◌∙◌}
-use borrow.Author.Rules.{rules}
-use Rattle.words.proofs.Laws.{both_passed}
-use Rattle.words.proofs.Given.{ok_given, err_given, given_is}
+use Rattle.words.proofs.Given.{ok_given, given_is}
 use Rattle.filter_bank.proofs.Summing.{total_format}
 use Rattle.filter_bank.proofs.Row.sum_word.Goals as goal
 
