@@ -197,8 +197,16 @@ impl<N: Digits> From<Result<Word<N>, Cause>> for CutAnswer<N> {
     ghost from_gives = { λ r a. a ≡ cut_answer (answer_of N.zero r) };
 
     fn from(made: Result<Word<N>, Cause>) -> CutAnswer<N> {
-        let Answer { outcome, word } = Answer::from(made);
-        CutAnswer { outcome, word }
+        match made {
+            Ok(word) => CutAnswer {
+                outcome: Ok(()),
+                word,
+            },
+            Err(cause) => {
+                let (outcome, word) = (Err(cause), Word::blank());
+                CutAnswer { outcome, word }
+            }
+        }
     }
 }
 
@@ -344,10 +352,9 @@ impl Format {
         ensures { result ≡ given (narrower_check self d) (narrower self d) }
     {
         let width = u64::from(self.width);
-        refuse_for(
-            Cause::Depth,
-            width.saturating_sub(d) < u64::from(LEAST_WIDTH),
-        )?;
+        refuse_for(Cause::Depth, width < 2)?;
+        // From this the compiler knows that d is no longer than the word, and shifts without a guard.
+        refuse_for(Cause::Depth, width - 2 < d)?;
         Format::placed(width - d, i64::from(self.unit) + d as i64)
     }
 }
