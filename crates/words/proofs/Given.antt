@@ -1,5 +1,6 @@
 -- What a call answers that works out a `Result`: the answers of specs/ are those of what it worked out. Assumes nothing.
--- Proved here: `answer_then`, `answer_given`, `answer_fitted`, `ok_given`, `err_given`, `given_is`, `then_is`.
+-- Proved here: `answer_then`, `answer_given`, `answer_fitted`, `format_given`, `ok_given`, `err_given`, `given_is`,
+-- `then_is`.
 use mathlib.Core.Path.{◌≡◌, refl}
 use Rattle.std.specs.Prelude.{Result, Ok, Err}
 use Rattle.words.specs.declared.Cause.{Cause}
@@ -7,6 +8,8 @@ use Rattle.words.specs.declared.Word.{Word}
 use Rattle.words.specs.Outcomes.{Outcome, Done, Refused, ◌then◌, given}
 use Rattle.words.specs.Refusals.{after}
 use Rattle.words.specs.Answers.{blank_of, answer_of}
+use Rattle.words.specs.declared.Format.{Format}
+use Rattle.words.specs.Formats.{format_answer, format_answer_of}
 
 -- ---- the answers of a kind whose blank number is zero
 module _ {N : Type 0} (zero : N) where
@@ -25,6 +28,12 @@ module _ {N : Type 0} (zero : N) where
       (after (λ c. record { outcome = Refused c; word = blank_of zero }) p (record { outcome = Done; word = w }))
   answer_fitted (Ok _) p w = answer_given p w
   answer_fitted (Err c) p w = refl
+
+-- ---- the answer of a format
+pub format_given : (o : Outcome) (f : Format) → format_answer_of (given o f) ≡ format_answer o f
+unfolding format_answer
+format_given (Ok _) f = refl
+format_given (Err c) f = refl
 
 -- ---- what is known behind a `?`: the check passed, and that is what was given; and what is then answered
 pub ok_given : {A : Type 0} (o : Outcome) (a b : A) → Ok b ≡ given o a → (o ≡ Done) × (b ≡ a)

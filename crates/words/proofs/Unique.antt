@@ -7,10 +7,17 @@ use Rattle.words.proofs.refuse_for.Reads as refuse-for
 use Rattle.words.proofs.Format.bad_unit.Reads as bad-unit
 use Rattle.words.proofs.Format.outside.Reads as outside
 use Rattle.words.proofs.Format.check.Reads as format-check
-use Rattle.words.proofs.Format.formed.Reads as formed
+use Rattle.words.proofs.Format.formed.Reads as format-formed
 use Rattle.words.proofs.Format.units_multiplied.Reads as units-multiplied
-use Rattle.words.proofs.Format.wider.Reads as wider
-use Rattle.words.proofs.Format.narrower.Reads as narrower
+use Rattle.words.proofs.Format.wider.Reads as format-wider
+use Rattle.words.proofs.Format.narrower.Reads as format-narrower
+use Rattle.words.proofs.format_refused.Reads as format-refused
+use Rattle.words.proofs.formed.Reads as formed
+use Rattle.words.proofs.wider.Reads as wider
+use Rattle.words.proofs.narrower.Reads as narrower
+use Rattle.words.proofs.plain_fitted.Reads as plain-fitted
+use Rattle.words.proofs.round_bit_fitted.Reads as round-bit-fitted
+use Rattle.words.proofs.half_unit_fitted.Reads as half-unit-fitted
 use Rattle.words.proofs.Word.blank.Reads as blank
 use Rattle.words.proofs.Word.check.Reads as word-check
 use Rattle.words.proofs.Word.fitted.Reads as fitted
@@ -36,6 +43,18 @@ format_check_one a x y e f p q = p ∙ sym q
 formed_one : OneResult (formed.Post tt)
 formed_one a x y e f p q = p ∙ sym q
 
+format_formed_one : OneResult (format-formed.Post tt)
+format_formed_one a x y e f p q = p ∙ sym q
+
+format_wider_one : OneResult (format-wider.Post tt)
+format_wider_one a x y e f p q = p ∙ sym q
+
+format_narrower_one : OneResult (format-narrower.Post tt)
+format_narrower_one a x y e f p q = p ∙ sym q
+
+format_refused_one : OneResult (format-refused.Post tt)
+format_refused_one a x y e f p q = p ∙ sym q
+
 units_multiplied_one : OneResult (units-multiplied.Post tt)
 units_multiplied_one a x y e f p q = p ∙ sym q
 
@@ -44,6 +63,15 @@ wider_one a x y e f p q = p ∙ sym q
 
 narrower_one : OneResult (narrower.Post tt)
 narrower_one a x y e f p q = p ∙ sym q
+
+plain_fitted_one : OneResult (plain-fitted.Post tt)
+plain_fitted_one a x y e f p q = p ∙ sym q
+
+round_bit_fitted_one : OneResult (round-bit-fitted.Post tt)
+round_bit_fitted_one a x y e f p q = p ∙ sym q
+
+half_unit_fitted_one : OneResult (half-unit-fitted.Post tt)
+half_unit_fitted_one a x y e f p q = p ∙ sym q
 
 blank_one : (N : RattleType) (l c g d h k t : _) → OneResult (blank.Post N l c g d h k t)
 blank_one N l c g d h k t a x y e f p q = p ∙ sym q

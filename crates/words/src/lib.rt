@@ -11,11 +11,14 @@
 #![tactic(auto)]
 
 ghost use Rattle.std.specs.Prelude.{◌≡◌, ◌-◌, ◌^◌, ◌<◌, ℕ, ℤ, pos};
-ghost use Rattle.words.specs.Outcomes.{given};
+ghost use Rattle.words.specs.Outcomes.{given, Refused};
 ghost use Rattle.words.specs.Words.{bad_width, bad_unit, outside, bad_round_bit};
-ghost use Rattle.words.specs.Refusals.{cause_number, number_of, refuse_for, format_check, word_check, differ, refuse, ◌or_else◌, write_answer_of};
-ghost use Rattle.words.specs.Formats.{format, narrower, narrower_check, wider, units_multiplied, answer_check};
+ghost use Rattle.words.specs.Refusals.{cause_number, number_of, refuse_for, format_check, word_check, differ, refuse, ◌or_else◌, blank_format, write_answer_of};
+ghost use Rattle.words.specs.Formats.{format, narrower, narrower_check, wider, units_multiplied, answer_check, format_answer, format_answer_of};
 ghost use Rattle.words.specs.Answers.{blank_of, answer_of, cut_answer};
+ghost use Rattle.words.specs.Plain.{plain_fitted};
+ghost use Rattle.words.specs.RoundBit.{round_bit_fitted};
+ghost use Rattle.words.specs.HalfUnit.{half_unit_fitted};
 
 // Why a call refuses, in the table's order and with the table's numbers.
 #[derive(Clone, Copy, Debug, PartialEq, Eq)]
@@ -169,6 +172,13 @@ pub struct CutAnswer<N> {
     pub word: Word<N>,
 }
 
+// The format of an answer, or a refusal with the blank one.
+#[derive(Clone, Copy)]
+pub struct FormatAnswer {
+    pub outcome: Outcome,
+    pub format: Format,
+}
+
 // The answer of a writing into a lent buffer: the count of bytes written, 0 when refused.
 #[derive(Clone, Copy)]
 pub struct WriteAnswer {
@@ -206,6 +216,21 @@ impl<N: Digits> From<Result<Word<N>, Cause>> for CutAnswer<N> {
                 let (outcome, word) = (Err(cause), Word::blank());
                 CutAnswer { outcome, word }
             }
+        }
+    }
+}
+
+impl From<Result<Format, Cause>> for FormatAnswer {
+    ghost from_gives = { λ r a. a ≡ format_answer_of r };
+
+    #[tactic(auto, unfolding(crate::specs::Formats::format_answer))]
+    fn from(made: Result<Format, Cause>) -> FormatAnswer {
+        match made {
+            Ok(format) => FormatAnswer {
+                outcome: Ok(()),
+                format,
+            },
+            Err(cause) => format_refused(cause),
         }
     }
 }
@@ -359,6 +384,41 @@ impl Format {
     }
 }
 
+// The same of a format as answers, for one who wants the blank one where it is refused.
+
+// A refusal, with the blank format.
+#[tactic(auto, unfolding(crate::specs::Formats::format_answer))]
+pub fn format_refused(cause: Cause) -> FormatAnswer
+    ensures { result ≡ format_answer (Refused cause) blank_format }
+{
+    let format = Format::BLANK;
+    FormatAnswer {
+        outcome: Err(cause),
+        format,
+    }
+}
+
+#[tactic(auto, using(crate::proofs::Given::format_given))]
+pub fn formed(width: u64, unit: i64) -> FormatAnswer
+    ensures { result ≡ format_answer (answer_check (format width unit)) (format width unit) }
+{
+    Format::formed(width, unit).into()
+}
+
+#[tactic(auto, using(crate::proofs::Given::format_given))]
+pub fn wider(f: Format, d: u64) -> FormatAnswer
+    ensures { result ≡ format_answer (answer_check (wider f d)) (wider f d) }
+{
+    f.wider(d).into()
+}
+
+#[tactic(auto, using(crate::proofs::Given::format_given))]
+pub fn narrower(f: Format, d: u64) -> FormatAnswer
+    ensures { result ≡ format_answer (narrower_check f d) (narrower f d) }
+{
+    f.narrower(d).into()
+}
+
 impl<N: Digits> Word<N> {
     // What a refusal hands back.
     pub fn blank() -> Word<N>
@@ -412,4 +472,27 @@ impl<N: Digits> Word<N> {
         other.check()?;
         refuse_for(Cause::Mismatch, self.format != other.format)
     }
+}
+
+// The word, or 8 with the blank one, of each kind.
+
+#[tactic(auto, unfolding(crate::specs::Plain::plain_fitted), using(crate::proofs::Given::answer_given))]
+pub fn plain_fitted(w: PlainWord) -> PlainAnswer
+    ensures { result ≡ plain_fitted w }
+{
+    w.fitted().into()
+}
+
+#[tactic(auto, unfolding(crate::specs::RoundBit::round_bit_fitted), using(crate::proofs::Given::answer_given))]
+pub fn round_bit_fitted(w: RoundBitWord) -> RoundBitAnswer
+    ensures { result ≡ round_bit_fitted w }
+{
+    w.fitted().into()
+}
+
+#[tactic(auto, unfolding(crate::specs::HalfUnit::half_unit_fitted), using(crate::proofs::Given::answer_given))]
+pub fn half_unit_fitted(w: HalfUnitWord) -> HalfUnitAnswer
+    ensures { result ≡ half_unit_fitted w }
+{
+    w.fitted().into()
 }
