@@ -1,6 +1,6 @@
 -- What a done answer and a passed check of each operation tell, and the definitions by depth at a depth that is not 0. Assumes nothing.
 -- Proved here: `word_done`, `word_outcome`, `cut_passed`, `widen_passed`, `widen_right`, `widen_room`, `sum_right`, `sum_room`, `product_passed`,
--- `cut_made`, `rest_made`, `cut_bit`, `rest_bit`.
+-- `two_given`, `cut_made`, `rest_made`, `cut_bit`, `rest_bit`.
 use Rattle.std.specs.Prelude.{Ok, Err}
 use Prim.Native.Nat.{ℕ, zero, suc, ◌+◌, ◌-◌, ◌^◌, ◌<◌, ◌≤◌}
 use native.Mathlib.Omega.{arith}
@@ -17,13 +17,13 @@ use Rattle.integers.proofs.Floor.{floor_none}
 use Rattle.words.specs.Formats.{narrower, narrower_check, wider, answer_check}
 use Rattle.words.specs.RoundBit.{round_bit_word, round_bit_check, round_bit_refused, round_bit_done, ◌and_then◌}
 use Rattle.words.specs.Outcomes.{Outcome}
-use Rattle.words.specs.Outcomes.{Done}
+use Rattle.words.specs.Outcomes.{Done, given}
 use Rattle.words.specs.declared.Format.{Format}
 use Rattle.words.specs.Kinds.{RoundBitWord}
 use Rattle.words.proofs.Laws.{refused_not_done, both_passed, three_passed, RightRoundBit, round_bit_right, small}
 use Rattle.words.proofs.Formats.{narrower_none, answer_right}
 use Rattle.words.proofs.Operands.{outcome_kept}
-use Rattle.round_bit.specs.Cuts.{cut_by, cut_check, rest_word, widen_check}
+use Rattle.round_bit.specs.Cuts.{cut_by, cut_check, rest_word, cut_and_rest_answer, two_answered, widen_check}
 use Rattle.round_bit.specs.Arithmetic.{sum_check, product_format, product_check}
 
 -- a done answer passed its check, and has the word that it was made with
@@ -33,6 +33,12 @@ word_done (Err c) w e = absurd (refused_not_done e)
 
 pub word_outcome : (o : Outcome) (w : RoundBitWord) → (o and_then round_bit_done w).outcome ≡ o
 word_outcome o w = outcome_kept round_bit_refused (λ a. a.outcome) (λ c. refl) o (round_bit_done w) refl
+
+-- a cut and its rest behind one check, as their answer
+pub two_given : (o : Outcome) (v r : RoundBitWord) →
+    two_answered (given o (record { word = v; rest = r })) ≡ cut_and_rest_answer (o and_then round_bit_done v) (o and_then round_bit_done r)
+two_given (Ok _) v r = refl
+two_given (Err c) v r = refl
 
 pub cut_passed : (w : RoundBitWord) (d : ℕ) → cut_check w d ≡ Done → (round_bit_check w ≡ Done) × (narrower_check w.format d ≡ Done)
 cut_passed w d e = both_passed (round_bit_check w) (narrower_check w.format d) e

@@ -5,6 +5,7 @@ use Rattle.round_bit.proofs.sign_change.Reads as sign-change
 use Rattle.round_bit.proofs.cut.Reads as cut
 use Rattle.round_bit.proofs.rest.Reads as rest
 use Rattle.round_bit.proofs.cut_and_rest.Reads as cut-and-rest
+use Rattle.round_bit.proofs.cut_in_two.Reads as cut-in-two
 use Rattle.round_bit.proofs.even_cut.Reads as even-cut
 use Rattle.round_bit.proofs.widen.Reads as widen
 use Rattle.round_bit.proofs.sum.Reads as sum
@@ -24,6 +25,9 @@ rest_one a x y e f p q = p ∙ sym q
 
 cut_and_rest_one : OneResult (cut-and-rest.Post tt)
 cut_and_rest_one a x y e f p q = p ∙ sym q
+
+cut_in_two_one : OneResult (cut-in-two.Post tt)
+cut_in_two_one a x y e f p q = p ∙ sym q
 
 even_cut_one : OneResult (even-cut.Post tt)
 even_cut_one a x y e f p q = p ∙ sym q

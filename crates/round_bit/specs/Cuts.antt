@@ -1,6 +1,7 @@
 -- Document 01, "Round-bit words": sign change, cut, rest of a cut, even cut (its rule is Ask 2 of
 -- document 02), widening on the right.
-use Rattle.std.specs.Prelude.{Result, ℕ, zero, suc, ◌-◌, ◌*◌, ◌^◌, Bool, cond, ℤ, pos, ◌+ℤ◌, ◌*ℤ◌}
+use Rattle.std.specs.Prelude.{Result, Ok, Err, ℕ, zero, suc, ◌-◌, ◌*◌, ◌^◌, Bool, cond}
+use Rattle.std.specs.Prelude.{ℤ, pos, ◌+ℤ◌, ◌*ℤ◌}
 use Rattle.integers.specs.Names.{eq_z, turned, floor_by, lowest, digit, low_digits}
 use Rattle.words.specs.Outcomes.{Outcome}
 use Rattle.words.specs.declared.RoundBit.{RoundBit}
@@ -11,9 +12,11 @@ use Rattle.words.specs.Outcomes.{given}
 use Rattle.words.specs.Answers.{cut_answer}
 use Rattle.words.specs.Refusals.{◌or_else◌}
 use Rattle.words.specs.Formats.{narrower, narrower_check, wider, answer_check}
-use Rattle.words.specs.RoundBit.{round_bit_word, round_bit_check, round_bit_done, ◌and_then◌}
+use Rattle.words.specs.RoundBit.{round_bit_word, round_bit_check, round_bit_refused, round_bit_done}
+use Rattle.words.specs.RoundBit.{◌and_then◌}
 use Rattle.words.specs.Kinds.{RoundBitCutAnswer}
 use Rattle.round_bit.specs.declared.CutAndRest.{CutAndRest}
+use Rattle.round_bit.specs.declared.CutAndRestAnswer.{CutAndRestAnswer}
 
 -- "Sign change: (-1-a, 1-r)."
 abbrev pub sign_changed : RoundBit → RoundBit
@@ -56,9 +59,21 @@ rest_word w (suc k) = round_bit_word (low_digits w.number.0 (suc k)) w.number.1 
 abbrev pub rest_of : RoundBitWord → ℕ → RoundBitAnswer
 rest_of w d = cut_check w d and_then round_bit_done (rest_word w d)
 
--- both of one check: the cut refuses and its rest refuses as it does
-abbrev pub cut_and_rest_of : RoundBitWord → ℕ → Result CutAndRest Cause
-cut_and_rest_of w d = given (cut_check w d) (record { word = cut_word w d; rest = rest_word w d })
+-- both in one answer: the cut refuses and its rest refuses as it does
+abbrev pub cut_and_rest_answer : RoundBitAnswer → RoundBitAnswer → CutAndRestAnswer
+cut_and_rest_answer a b = record { outcome = a.outcome; word = a.word; rest = b.word }
+
+abbrev pub cut_and_rest_of : RoundBitWord → ℕ → CutAndRestAnswer
+cut_and_rest_of w d =
+    cut_and_rest_answer (cut_check w d and_then round_bit_done (cut_word w d)) (rest_of w d)
+
+-- both of one check, for one who goes on with them; and the answer that is made of it
+abbrev pub cut_in_two_of : RoundBitWord → ℕ → Result CutAndRest Cause
+cut_in_two_of w d = given (cut_check w d) (record { word = cut_word w d; rest = rest_word w d })
+
+abbrev pub two_answered : Result CutAndRest Cause → CutAndRestAnswer
+two_answered (Ok two) = cut_and_rest_answer (round_bit_done two.word) (round_bit_done two.rest)
+two_answered (Err c) = cut_and_rest_answer (round_bit_refused c) (round_bit_refused c)
 
 -- "where a + r lies exactly half a new unit above floor(a / 2^d) new units", for d = k + 1
 abbrev pub tied : ℕ → ℤ → ℕ → Bool

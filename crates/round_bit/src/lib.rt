@@ -18,17 +18,25 @@ ghost use Rattle.words.specs.Refusals.{refuse};
 ghost use Rattle.words.specs.Formats.{answer_check};
 ghost use Rattle.words.specs.RoundBit.{round_bit_check};
 ghost use Rattle.words.specs.Plain.{plain_check};
-ghost use Rattle.round_bit.specs.Cuts.{sign_changed, sign_change_word, sign_change_of, cut_check, cut_word, cut_of, rest_word, rest_of, cut_and_rest_of, even_round_bit, even_cut_word, even_cut_of, widen_check, widen_word, widen_of};
+ghost use Rattle.round_bit.specs.Cuts.{sign_changed, sign_change_word, sign_change_of, cut_check, cut_word, cut_of, rest_word, rest_of, cut_in_two_of, two_answered, cut_and_rest_of, even_round_bit, even_cut_word, even_cut_of, widen_check, widen_word, widen_of};
 ghost use Rattle.round_bit.specs.Arithmetic.{added, sum_check, sum_word, sum_of, difference_of, magnitude_product, sign_changed_if, magnitude, multiplied, product_format, product_check, product_word, product_of, to_plain_word, to_plain_of, from_plain_word, from_plain_of};
 
 use words::{
-    Cause, CutAnswer, Format, Plain, PlainAnswer, PlainWord, RoundBit, RoundBitAnswer,
+    Cause, CutAnswer, Format, Outcome, Plain, PlainAnswer, PlainWord, RoundBit, RoundBitAnswer,
     RoundBitWord, Word,
 };
 
 // A cut and its rest, which together lose nothing.
 #[derive(Clone, Copy)]
 pub struct CutAndRest {
+    pub word: RoundBitWord,
+    pub rest: RoundBitWord,
+}
+
+// The answer of both: two blank words where it refused.
+#[derive(Clone, Copy)]
+pub struct CutAndRestAnswer {
+    pub outcome: Outcome,
     pub word: RoundBitWord,
     pub rest: RoundBitWord,
 }
@@ -134,14 +142,44 @@ fn rest_word(w: RoundBitWord, d: u64) -> RoundBitWord
 }
 
 // Both of one check.
-pub fn cut_and_rest(w: RoundBitWord, d: u64) -> Result<CutAndRest, Cause>
-    ensures { result ≡ cut_and_rest_of w d }
+pub fn cut_in_two(w: RoundBitWord, d: u64) -> Result<CutAndRest, Cause>
+    ensures { result ≡ cut_in_two_of w d }
 {
     let word = cut_word(w, d)?;
     Ok(CutAndRest {
         word,
         rest: rest_word(w, d),
     })
+}
+
+impl From<Result<CutAndRest, Cause>> for CutAndRestAnswer {
+    ghost from_gives = { λ r a. a ≡ two_answered r };
+
+    fn from(two: Result<CutAndRest, Cause>) -> CutAndRestAnswer {
+        match two {
+            Ok(CutAndRest { word, rest }) => CutAndRestAnswer {
+                outcome: Ok(()),
+                word,
+                rest,
+            },
+            Err(cause) => {
+                let blank = Word::blank();
+                CutAndRestAnswer {
+                    outcome: Err(cause),
+                    word: blank,
+                    rest: blank,
+                }
+            }
+        }
+    }
+}
+
+// Both in one answer.
+#[tactic(auto, using(crate::proofs::Checks::two_given))]
+pub fn cut_and_rest(w: RoundBitWord, d: u64) -> CutAndRestAnswer
+    ensures { result ≡ cut_and_rest_of w d }
+{
+    cut_in_two(w, d).into()
 }
 
 fn left(w: RoundBitWord, d: u64) -> Result<RoundBitWord, Cause>

@@ -17,7 +17,7 @@ use Rattle.words.specs.RoundBit.{round_bit_check, round_bit_done, ◌and_then◌
 use Rattle.words.specs.declared.Format.{Format}
 use Rattle.words.proofs.Laws.{refused_not_done}
 use Rattle.round_bit.specs.Arithmetic.{sum_check}
-use Rattle.round_bit.specs.Cuts.{cut_check, cut_of, rest_of, cut_and_rest_of}
+use Rattle.round_bit.specs.Cuts.{cut_check, cut_of, rest_of, cut_in_two_of}
 use Rattle.round_bit.specs.declared.CutAndRest.{CutAndRest}
 use Rattle.running_sum.specs.declared.RunningSum.{RunningSum}
 use Rattle.running_sum.specs.Steps.{depth_check, running_sum_check, put_check}
@@ -70,7 +70,7 @@ module _ (s : RunningSum) where
   same_given (Ok _) v r = refl
   same_given (Err c) v r = refl
 
-  pub cut_handed : eqb s.depth 0 ≡ false → cut_and_rest_of s.kept s.depth ≡ given (running_sum_check s) handed
+  pub cut_handed : eqb s.depth 0 ≡ false → cut_in_two_of s.kept s.depth ≡ given (running_sum_check s) handed
   cut_handed z = rw (depth_some s.kept.format s.depth z) (same_given (cut_check s.kept s.depth) _ _)
 
   pub cut_none : (c : Cause) → round_bit_check s.kept ≡ Done → refuse_for Depth (eqb s.depth 0) ≡ Refused c → Err c ≡ given (running_sum_check s) handed

@@ -117,7 +117,7 @@ impl RunningSum {
     {
         self.kept.check()?;
         refuse_for(Cause::Depth, self.depth == 0)?;
-        round_bit::cut_and_rest(self.kept, self.depth)
+        round_bit::cut_in_two(self.kept, self.depth)
     }
 
     // A call that hands out and is refused leaves the sum as it was.

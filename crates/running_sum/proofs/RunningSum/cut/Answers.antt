@@ -9,4 +9,4 @@ pub returns-in_err-refuse_for : goal.returns-in_err-refuse_for
 returns-in_err-refuse_for c = rw (← cut_none c.args.self _ (sym c.in_ok-check.ensures) (sym c.in_err-refuse_for.ensures)) (search rules)
 
 pub returns : goal.returns
-returns c = c.cut_and_rest.ensures ∙ cut_handed c.args.self (passed Depth _ (sym c.in_ok-refuse_for.ensures))
+returns c = c.cut_in_two.ensures ∙ cut_handed c.args.self (passed Depth _ (sym c.in_ok-refuse_for.ensures))
