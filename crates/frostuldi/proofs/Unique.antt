@@ -1,4 +1,5 @@
--- Only one outcome meets each exported function's contract.
+-- Only one outcome meets each exported function's contract; Unique/Conversions.antt says so of each conversion's.
+mod Conversions
 use mathlib.Core.Path.{sym, ◌∙◌}
 use contract.Lifetimes.{Lfts}
 use Rattle.integers.specs.OneOutcome.{OneResult, OneBuffer}

@@ -13,6 +13,7 @@ use Rattle.round_bit.proofs.difference.Reads as difference
 use Rattle.round_bit.proofs.product.Reads as product
 use Rattle.round_bit.proofs.to_plain.Reads as to-plain
 use Rattle.round_bit.proofs.from_plain.Reads as from-plain
+use Rattle.round_bit.proofs.CutAndRestAnswerFromResultCutAndRestCause.from.Reads as cut-and-rest-answer-from-result-cut-and-rest-cause
 
 sign_change_one : OneResult (sign-change.Post tt)
 sign_change_one a x y e f p q = p ∙ sym q
@@ -49,3 +50,6 @@ to_plain_one a x y e f p q = p ∙ sym q
 
 from_plain_one : OneResult (from-plain.Post tt)
 from_plain_one a x y e f p q = p ∙ sym q
+
+cut_and_rest_answer_from_result_cut_and_rest_cause_one : OneResult (cut-and-rest-answer-from-result-cut-and-rest-cause.Post tt)
+cut_and_rest_answer_from_result_cut_and_rest_cause_one a x y e f p q = p ∙ sym q

@@ -18,6 +18,20 @@ use Rattle.words.proofs.narrower.Reads as narrower
 use Rattle.words.proofs.plain_fitted.Reads as plain-fitted
 use Rattle.words.proofs.round_bit_fitted.Reads as round-bit-fitted
 use Rattle.words.proofs.half_unit_fitted.Reads as half-unit-fitted
+use Rattle.words.proofs.PlainDigits.number.Reads as plain-digits-number
+use Rattle.words.proofs.PlainDigits.round.Reads as plain-digits-round
+use Rattle.words.proofs.PlainDigits.zero.Reads as plain-digits-zero
+use Rattle.words.proofs.RoundBitDigits.number.Reads as round-bit-digits-number
+use Rattle.words.proofs.RoundBitDigits.round.Reads as round-bit-digits-round
+use Rattle.words.proofs.RoundBitDigits.zero.Reads as round-bit-digits-zero
+use Rattle.words.proofs.HalfUnitDigits.number.Reads as half-unit-digits-number
+use Rattle.words.proofs.HalfUnitDigits.round.Reads as half-unit-digits-round
+use Rattle.words.proofs.HalfUnitDigits.zero.Reads as half-unit-digits-zero
+use Rattle.words.proofs.AnswerFromResultWordCause.from.Reads as answer-from-result-word-cause
+use Rattle.words.proofs.CutAnswerFromResultWordCause.from.Reads as cut-answer-from-result-word-cause
+use Rattle.words.proofs.FormatAnswerFromResultFormatCause.from.Reads as format-answer-from-result-format-cause
+use Rattle.words.proofs.WriteAnswerFromResultUsizeCause.from.Reads as write-answer-from-result-usize-cause
+use Rattle.words.proofs.U32FromCause.from.Reads as u32-from-cause
 use Rattle.words.proofs.Word.blank.Reads as blank
 use Rattle.words.proofs.Word.check.Reads as word-check
 use Rattle.words.proofs.Word.fitted.Reads as fitted
@@ -72,6 +86,48 @@ round_bit_fitted_one a x y e f p q = p ∙ sym q
 
 half_unit_fitted_one : OneResult (half-unit-fitted.Post tt)
 half_unit_fitted_one a x y e f p q = p ∙ sym q
+
+plain_digits_number_one : OneResult (plain-digits-number.Post tt)
+plain_digits_number_one a x y e f p q = p ∙ sym q
+
+plain_digits_round_one : OneResult (plain-digits-round.Post tt)
+plain_digits_round_one a x y e f p q = p ∙ sym q
+
+plain_digits_zero_one : OneResult (plain-digits-zero.Post tt)
+plain_digits_zero_one a x y e f p q = p ∙ sym q
+
+round_bit_digits_number_one : OneResult (round-bit-digits-number.Post tt)
+round_bit_digits_number_one a x y e f p q = p ∙ sym q
+
+round_bit_digits_round_one : OneResult (round-bit-digits-round.Post tt)
+round_bit_digits_round_one a x y e f p q = p ∙ sym q
+
+round_bit_digits_zero_one : OneResult (round-bit-digits-zero.Post tt)
+round_bit_digits_zero_one a x y e f p q = p ∙ sym q
+
+half_unit_digits_number_one : OneResult (half-unit-digits-number.Post tt)
+half_unit_digits_number_one a x y e f p q = p ∙ sym q
+
+half_unit_digits_round_one : OneResult (half-unit-digits-round.Post tt)
+half_unit_digits_round_one a x y e f p q = p ∙ sym q
+
+half_unit_digits_zero_one : OneResult (half-unit-digits-zero.Post tt)
+half_unit_digits_zero_one a x y e f p q = p ∙ sym q
+
+answer_from_result_word_cause_one : (N : RattleType) (l c g d h k t : _) → OneResult (answer-from-result-word-cause.Post N l c g d h k t)
+answer_from_result_word_cause_one N l c g d h k t a x y e f p q = p ∙ sym q
+
+cut_answer_from_result_word_cause_one : (N : RattleType) (l c g d h k t : _) → OneResult (cut-answer-from-result-word-cause.Post N l c g d h k t)
+cut_answer_from_result_word_cause_one N l c g d h k t a x y e f p q = p ∙ sym q
+
+format_answer_from_result_format_cause_one : OneResult (format-answer-from-result-format-cause.Post tt)
+format_answer_from_result_format_cause_one a x y e f p q = p ∙ sym q
+
+write_answer_from_result_usize_cause_one : OneResult (write-answer-from-result-usize-cause.Post tt)
+write_answer_from_result_usize_cause_one a x y e f p q = p ∙ sym q
+
+u32_from_cause_one : OneResult (u32-from-cause.Post tt)
+u32_from_cause_one a x y e f p q = p ∙ sym q
 
 blank_one : (N : RattleType) (l c g d h k t : _) → OneResult (blank.Post N l c g d h k t)
 blank_one N l c g d h k t a x y e f p q = p ∙ sym q
