@@ -8,5 +8,6 @@ use Rattle.digit_text.proofs.strange_place.Goals as goal
 pub returns : goal.returns
 returns c =
     let t = c.args.text.now in
-    rw (← strange_position t)
-    (position_from_yields_List strange _ _ c.position.result c.position.ensures.ran (YieldsList-from_slice t (cc)) (λ x b q k. search (rules, tests)))
+    let ran = c.position.ensures.ran in
+    let found = position_from_yields_List strange _ _ c.position.result ran (YieldsList-from_slice t (cc)) (λ x b q k. search (rules, tests)) in
+    rw (← strange_position t, ← found) (search rules)
