@@ -8,7 +8,7 @@
 // say of the code in specs/Met.antt, and the proof of both in proofs/Bench.antt.
 #![tactic(auto)]
 
-ghost use Rattle.std.specs.Prelude.{◌^◌, ◌<◌, ◌≤◌};
+ghost use Rattle.std.specs.Prelude.{◌≤◌};
 
 use std::{fmt, io};
 use words::{
@@ -202,24 +202,24 @@ fn widths(rt: &impl Print) -> io::Result<()> {
     )
 }
 
-// A file of N bytes: the front of one of plain words, and zeros.
-fn print_file<const N: usize>(
+// A file of so many bytes: the front of one of plain words, and zeros. One buffer holds a file of any length, so
+// that the program has one large frame and not one within another.
+fn print_file(
     rt: &impl Print,
     name: &str,
+    length: usize,
     width: u8,
     unit: u8,
     count: u16,
 ) -> io::Result<()>
-    requires front { 12 ≤ N }
-    requires fits { N < 2 ^ 63 }
+    requires within { length ≤ 40017 }
 {
-    let mut file = [0; N];
-    let front = &mut file[..];
-    front[..4].copy_from_slice(b"RNB\x01");
-    front[6] = width;
-    front[7] = unit;
-    front[8..10].copy_from_slice(&count.to_le_bytes());
-    let a = block_file::read(&file, &mut [0; 8001], &mut [0; 8001]);
+    let mut file = [0; 40017];
+    file[..4].copy_from_slice(b"RNB\x01");
+    file[6] = width;
+    file[7] = unit;
+    file[8..10].copy_from_slice(&count.to_le_bytes());
+    let a = block_file::read(&file[..length], &mut [0; 8001], &mut [0; 8001]);
     let Format { width, unit } = a.head.format;
     println!(rt;
         "{name} {} {} {width} {unit} {}",
@@ -230,11 +230,11 @@ fn print_file<const N: usize>(
 }
 
 fn files(rt: &impl Print) -> io::Result<()> {
-    print_file::<40012>(rt, "count 8,000", 5, 0, 8000)?;
-    print_file::<40017>(rt, "count 8,001", 5, 0, 8001)?;
-    print_file::<17>(rt, "width 32", 32, 0, 1)?;
-    print_file::<17>(rt, "width 33", 33, 0, 1)?;
-    print_file::<17>(rt, "unit byte 80", 5, 0x80, 1)
+    print_file(rt, "count 8,000", 40012, 5, 0, 8000)?;
+    print_file(rt, "count 8,001", 40017, 5, 0, 8001)?;
+    print_file(rt, "width 32", 17, 32, 0, 1)?;
+    print_file(rt, "width 33", 17, 33, 0, 1)?;
+    print_file(rt, "unit byte 80", 17, 5, 0x80, 1)
 }
 
 fn print_reading(rt: &impl Print, name: &str, text: &[u8]) -> io::Result<()> {
